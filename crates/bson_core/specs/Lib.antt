@@ -1,0 +1,5 @@
+pub mod Names
+pub mod Fields
+pub mod Spelling
+pub mod Grammar
+pub mod Reading

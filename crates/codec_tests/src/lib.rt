@@ -1,0 +1,10 @@
+//! Tests of the crates that read and write bytes: outside_core, bson_core, op_msg. They stand in a crate of their
+//! own, since a crate with tests is proved twice.
+#![tactic(auto)]
+
+#[cfg(test)]
+mod documents;
+#[cfg(test)]
+mod messages;
+#[cfg(test)]
+mod outside;

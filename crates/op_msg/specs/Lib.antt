@@ -1,0 +1,3 @@
+pub mod Words
+pub mod Message
+pub mod Errors

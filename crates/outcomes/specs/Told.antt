@@ -1,0 +1,8 @@
+-- Facts of what an object of the outside tells of itself. A source in memory tells the bytes that it has
+-- left; standard input tells nothing, and then nothing is claimed.
+use Rattle.std.specs.Prelude.{Option, Some, None}
+
+-- the fact holds of what is told, where it is told
+abbrev pub Told : {X : Type 0} → Option X → (X → Type 0) → Type 0
+Told None P = Unit {0}
+Told (Some x) P = P x

@@ -1,0 +1,4 @@
+pub mod Laying
+pub mod Places
+pub mod Viewing
+pub mod Inserting

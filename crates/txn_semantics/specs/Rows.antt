@@ -1,0 +1,44 @@
+-- The rows of a collection: documents by id, rising; and what writes do to them.
+use Rattle.std.specs.Prelude.{ℕ, Bool, List, [], ◌∷◌, if◌then◌else◌}
+use Rattle.std.specs.List.{list_any}
+use Rattle.std.specs.Str.{bytes_eq}
+use Rattle.bson_core.specs.Fields.{Document}
+use Rattle.txn_types.specs.Order.{id_cmp, same_id}
+use Rattle.txn_types.specs.declared.id.Id.{Id}
+use Rattle.txn_types.specs.declared.write.Write.{Write}
+use Rattle.txn_types.specs.declared.write.Write.TheVariants.{Put, Delete}
+use Rattle.txn_semantics.specs.Keyed.{put, taken_out, laid, Rises}
+
+-- an id and its document
+abbrev pub Row : Type 0
+Row = Id × Document
+
+-- the rows with this document under its id
+abbrev pub put_row : Id → Document → List Row → List Row
+put_row id doc rows = put id_cmp id doc rows
+
+-- the rows without that id
+abbrev pub delete_row : Id → List Row → List Row
+delete_row id rows = taken_out id_cmp id rows
+
+-- the rows with others laid over them
+abbrev pub laid_over : List Row → List Row → List Row
+laid_over rows others = laid id_cmp rows others
+
+-- the ids rise
+abbrev pub IsRising : List Row → Type 0
+IsRising rows = Rises id_cmp rows
+
+-- a row of this id is there
+abbrev pub holds_id : Id → List Row → Bool
+holds_id id rows = list_any (λ row. same_id id row.0) rows
+
+-- the rows of a namespace behind a write; a write in another namespace leaves them
+abbrev pub written : List ℕ → List Row → Write → List Row
+written ns rows (Put there id doc) = if bytes_eq ns there then put_row id doc rows else rows
+written ns rows (Delete there id) = if bytes_eq ns there then delete_row id rows else rows
+
+-- the rows of a namespace behind writes, one after the other
+abbrev pub under : List ℕ → List Row → List Write → List Row
+under ns rows [] = rows
+under ns rows (write ∷ writes) = under ns (written ns rows write) writes
