@@ -1,3 +1,6 @@
+ghost use Rattle.std.specs.Prelude.{IfOk, IsSome};
+ghost use Rattle.txn_types.specs.Ids.{id_in};
+
 use bson_core::{Doc, Name, Value};
 use sqlite_items::Items;
 use std::alloc::{AllocError, Global};
@@ -15,7 +18,9 @@ const TAG: Tag = Tag {
 };
 
 /// `{_id: 5}`.
-fn five(alloc: Global) -> Result<Doc, AllocError> {
+fn five(alloc: Global) -> Result<Doc, AllocError>
+    ensures { IfOk result (λ d. IsSome (id_in d)) }
+{
     let mut fields = Vec::new(alloc);
     fields.push((Name::from_str(alloc, "_id")?, Value::Int(5)))?;
     Ok(Items::from_vec(fields))

@@ -1,9 +1,13 @@
+ghost use Rattle.std.specs.Prelude.{◌≡◌, ◌+◌, ◌*◌, ◌^◌};
+
 use std::test::Fail;
 use txn_types::{ClockErr, HybridClock, Ts};
 
 /// A time of so many seconds and this increment.
-fn time(seconds: u32, increment: u32) -> Ts {
-    Ts((u64::from(seconds) << 32) | u64::from(increment))
+fn time(seconds: u32, increment: u32) -> Ts
+    ensures { result ≡ seconds * 2 ^ 32 + increment }
+{
+    Ts(u64::from(seconds) * 4_294_967_296 + u64::from(increment))
 }
 
 #[test]
