@@ -12,7 +12,8 @@ use Rattle.txn_semantics.specs.Answers.{means}
 use Rattle.txn_semantics.specs.Meaning.{Meaning, reply_of, writes_of}
 use Rattle.txn_semantics.specs.View.{view}
 use Rattle.txn_semantics.specs.Writes.{write_set}
-use Rattle.mtx.specs.Inserts.{Insert, insert_in}
+use Rattle.mtx.specs.declared.insert.Insert.{Insert}
+use Rattle.mtx.specs.Inserts.{insert_in}
 use Rattle.mtx.specs.Serving.{State, first_state, commit_time, tag_of, op_of, meaning, with_answer, inserted, served, served_all}
 use Rattle.mtx.proofs.Good.{GoodAnswer, GoodCommit, Follows, Good}
 use Rattle.mtx.proofs.Once.{WritesOnce, insert_writes_once}

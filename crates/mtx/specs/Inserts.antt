@@ -10,7 +10,7 @@ use Rattle.bson_core.specs.Fields.{Document, value_of}
 use Rattle.bson_core.specs.Spelling.{spelling}
 use Rattle.txn_types.specs.Ids.{id_in}
 use Rattle.txn_types.specs.Names.{is_database, is_collection, namespace_of}
-use Rattle.txn_types.specs.declared.id.Id.{Id}
+use Rattle.mtx.specs.declared.insert.Insert.{Insert}
 
 infixl 10 ◌>>=◌
 abbrev pub ◌>>=◌ : {A B : Type 0} → Option A → (A → Option B) → Option B
@@ -38,12 +38,6 @@ only (value ∷ other ∷ values) = None
 abbrev pub command_of : Document → List ℕ
 command_of [] = []
 command_of (field ∷ fields) = field.0
-
--- an insert of one document
-pub record Insert : Type 0 where
-  pub ns : List ℕ
-  pub id : Id
-  pub doc : Document
 
 -- names within the limits, and a document that can be stored
 abbrev pub is_within_limits : List ℕ → List ℕ → Document → Bool

@@ -1,9 +1,13 @@
 -- Lines of a schedule, and what they ask.
-use Rattle.std.specs.Prelude.{◌≡◌, ℕ, ◌≤◌, ◌<◌, ◌^◌, ◌==◌, List, [], ◌∷◌, ◌++◌, length, if◌then◌else◌, Ok, codes, decimal}
-use Rattle.std.specs.List.{slice_split}
+use Rattle.std.specs.Prelude.{◌≡◌, ℕ, ◌≤◌, ◌<◌, ◌^◌, ◌==◌, not, true, List, [], ◌∷◌, ◌++◌, length, if◌then◌else◌, Ok, codes, decimal}
+use Rattle.std.specs.List.{list_all, slice_split}
 use Rattle.hex.specs.Hex.{decode_of}
 use Rattle.op_msg.specs.declared.frame.Frame.{Frame}
 use Rattle.op_msg.specs.Message.{IsMessage}
+
+-- no byte of these is that one
+abbrev pub Lacks : ℕ → List ℕ → Type 0
+Lacks byte bytes = list_all (λ b. not (b == byte)) bytes ≡ true
 
 -- the pieces as lines: behind the last line feed there is no line where nothing stands
 abbrev pub lines_in : List (List ℕ) → List (List ℕ)
@@ -12,20 +16,25 @@ lines_in (x ∷ []) = if length x == 0 then [] else x ∷ []
 lines_in (x ∷ y ∷ more) = x ∷ lines_in (y ∷ more)
 
 -- the lines of a text: each is ended by a line feed, which the last may lack
-abbrev pub lines_of : List ℕ → List (List ℕ)
+unfoldable pub lines_of : List ℕ → List (List ℕ)
 lines_of text = lines_in (slice_split (λ b. b == 10) text)
+
+-- the line is `client C HEX`: the number of a connection, and bytes in hexadecimal
+pub record IsClientLine (line : List ℕ) (connection : ℕ) (bytes : List ℕ) : Type 0 where
+  pub digits : List ℕ
+  pub some : 0 < length digits
+  pub form : line ≡ codes "client " ++ decimal connection ++ 32 ∷ digits
+  pub number : connection < 2 ^ 32
+  pub decoded : decode_of digits ≡ Ok bytes
 
 -- what a line asks: a message that comes on a connection
 pub record Asked : Type 0 where
   pub connection : ℕ
   pub request : Frame
 
--- the line is `client C HEX`: the number of a connection, and a message in hexadecimal
+-- the line brings this message on this connection; no longer line is played
 pub record Asks (line : List ℕ) (a : Asked) : Type 0 where
-  pub digits : List ℕ
   pub bytes : List ℕ
-  pub form : line ≡ codes "client " ++ decimal a.connection ++ 32 ∷ digits
-  pub number : a.connection < 2 ^ 32
-  pub decoded : decode_of digits ≡ Ok bytes
+  pub form : IsClientLine line a.connection bytes
   pub message : IsMessage bytes a.request
   pub short : length line ≤ 100000000

@@ -47,13 +47,11 @@ DoneIsCommitted entries answered = All (λ a. IsOk a.outcome → IsTrue (has_com
 abbrev pub RightThroughout : List Asked → Type 0
 RightThroughout asked = (n : ℕ) → n ≤ length asked → Right boots (behind n asked).entries (behind n asked).answered × DoneIsCommitted (behind n asked).entries (behind n asked).answered
 
--- all lines were played: their replies were written, then the list of commits and no more
-pub record Played (input before after : List ℕ) : Type 0 where
+-- each line asks something, and there are no more than are played
+pub record IsPlayable (input : List ℕ) : Type 0 where
   pub asked : List Asked
   pub lines : AllAsk (lines_of input) asked
   pub few : length (lines_of input) ≤ 10000000
-  pub text : after ≡ before ++ answers first_state asked ++ dump (behind (length asked) asked).entries
-  pub right : RightThroughout asked
 
 -- the first line that asks nothing is this one, counted from 1, and it would be played
 pub record FirstBadLine (number : ℕ) (input : List ℕ) : Type 0 where
@@ -71,15 +69,22 @@ pub record IsOverrun (input : List ℕ) : Type 0 where
   pub lines : AllAsk (take 10000000 (lines_of input)) asked
   pub many : 10000000 < length (lines_of input)
 
--- the first lines, so many of them, were answered, and no more was written
+-- the text of all lines' replies and then of the list of commits was written, and no more
+pub record Played (input before after : List ℕ) : Type 0 where
+  pub asked : List Asked
+  pub lines : AllAsk (lines_of input) asked
+  pub text : after ≡ before ++ answers first_state asked ++ dump (behind (length asked) asked).entries
+  pub right : RightThroughout asked
+
+-- the replies to the first lines, so many of them, were written, and no more
 pub record AnsweredFirst (n : ℕ) (input before after : List ℕ) : Type 0 where
   pub asked : List Asked
   pub lines : AllAsk (take n (lines_of input)) asked
   pub text : after ≡ before ++ answers first_state asked
   pub right : RightThroughout asked
 
--- what was written is a front of what is written where nothing fails: of the answers to the first lines, or of the
--- answers to all and the list of commits
+-- what was written is a front of what is written where nothing fails: of the replies to the first lines, or of the
+-- replies to all and the list of commits
 pub record CutShort (input before after : List ℕ) : Type 0 where
   pub asked : List Asked
   pub lines : AllAsk (take (length asked) (lines_of input)) asked

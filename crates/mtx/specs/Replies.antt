@@ -2,7 +2,6 @@
 -- project's choice among the server's.
 use Rattle.std.specs.Prelude.{ℕ, ℤ, pos, List, [], ◌∷◌, ◌++◌, ◌==◌, if◌then◌else◌, codes, replicate}
 use Rattle.std.specs.Fmt.{signed_decimal}
-use Rattle.bson_core.specs.declared.value.Value.{Value}
 use Rattle.bson_core.specs.declared.value.Value.TheVariants as kinds
 use Rattle.bson_core.specs.declared.value.Value.TheViews as views
 use Rattle.bson_core.specs.Fields.{Document}

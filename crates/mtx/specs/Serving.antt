@@ -1,6 +1,6 @@
 -- What one router and one shard do with a request: a serial for each insert, its meaning over the commits so far, and
 -- a commit where it isn't refused.
-use Rattle.std.specs.Prelude.{ℕ, pos, ◌+◌, Bool, false, List, [], ◌∷◌, ◌++◌, Option, Some, None, Result, Ok, Err}
+use Rattle.std.specs.Prelude.{ℕ, pos, ◌+◌, false, List, [], ◌∷◌, ◌++◌, Some, None, Ok, Err}
 use Rattle.bson_core.specs.Fields.{Document}
 use Rattle.op_msg.specs.declared.frame.Frame.{Frame}
 use Rattle.txn_types.specs.Clock.{next_time}
@@ -9,9 +9,10 @@ use Rattle.txn_types.specs.declared.operation.Op.{Op}
 use Rattle.txn_types.specs.declared.operation.Op.TheVariants.{Insert as InsertOp}
 use Rattle.txn_semantics.specs.declared.commits.Entry.{Entry}
 use Rattle.txn_semantics.specs.declared.commits.Answered.{Answered}
-use Rattle.txn_semantics.specs.Meaning.{Meaning, eval, reply_of, ns_of}
+use Rattle.txn_semantics.specs.Meaning.{Meaning, eval, reply_of}
 use Rattle.txn_semantics.specs.View.{view}
-use Rattle.mtx.specs.Inserts.{Insert, insert_in, command_of}
+use Rattle.mtx.specs.declared.insert.Insert.{Insert}
+use Rattle.mtx.specs.Inserts.{insert_in, command_of}
 use Rattle.mtx.specs.Replies.{done, duplicate_key, no_such_command}
 
 -- the serial drawn last, the time of the last commit, the commits, and the statements that were answered
@@ -63,9 +64,13 @@ told s i m = elim m [ Ok ok ↦ done (commit_time s.last) | Err e ↦ duplicate_
 abbrev pub reply_body : State → Document → Document
 reply_body s body = elim (insert_in body) [ None ↦ no_such_command (command_of body) s.last | Some i ↦ told s i (meaning s i) ]
 
+-- the message that answers a request with this body
+abbrev pub answer_with : Frame → Document → Frame
+answer_with request body = record { request_id = pos 0; response_to = request.request_id; legacy = false; more = false; body = body; seqs = [] }
+
 -- the reply to a request
 abbrev pub reply_to : State → Frame → Frame
-reply_to s request = record { request_id = pos 0; response_to = request.request_id; legacy = false; more = false; body = reply_body s request.body; seqs = [] }
+reply_to s request = answer_with request (reply_body s request.body)
 
 -- behind requests, one after the other
 abbrev pub served_all : State → List Document → State

@@ -1,6 +1,12 @@
-ghost use Rattle.std.specs.Prelude.{◌≡◌, Some, IfOk, IfSome};
+ghost use Rattle.std.specs.Prelude.{◌≡◌, Some, IfOk, IfSome, length, nat_le};
+ghost use Rattle.std.specs.Option.{option_and_then, option_copied};
+ghost use Rattle.bson_core.specs.declared.value.Value.TheViews.{out-Value};
+ghost use Rattle.bson_core.specs.Fields.{value_of};
+ghost use Rattle.bson_core.specs.Spelling.{spelling};
 ghost use Rattle.txn_types.specs.Ids.{id_in};
+ghost use Rattle.mtx.specs.Inserts.{text_in, list_in, doc_in, only, insert_of, insert_in};
 
+use crate::look::command_in;
 use bson_core::{Doc, Value, copy_doc, get, size};
 use std::alloc::{AllocError, Global};
 use txn_types::{Id, IdErr, Ns, NsErr};
@@ -16,54 +22,76 @@ pub struct Insert {
     pub doc: Doc,
 }
 
-/// The collection's name, the list of documents and the database's name of a body that has exactly these fields,
-/// the command first.
-fn fields_of(body: &Doc) -> Option<(&str, &[Value], &str)> {
-    let fields = body.as_slice();
-    if fields.len() != 3 || fields[0].0.as_str() != "insert" {
-        return None;
-    }
-    match (
-        get(body, "insert"),
-        get(body, "documents"),
-        get(body, "$db"),
-    ) {
-        (Some(Value::Text(collection)), Some(Value::List(docs)), Some(Value::Text(database))) => {
-            Some((collection.as_str(), docs.as_slice(), database.as_str()))
-        }
+/// The text of the first field of that name.
+fn text_of<'a>(body: &'a Doc, name: &str) -> Option<&'a str>
+    ensures { option_copied result ≡ option_and_then (λ v. text_in (out-Value v)) (value_of name.now body.now) }
+{
+    match get(body, name)? {
+        Value::Text(text) => Some(text.as_str()),
         _ => None,
     }
 }
 
-/// The only document of the list, and its id, where it can be stored.
-fn document_of(alloc: Global, docs: &[Value]) -> Result<Option<(Id, &Doc)>, AllocError>
-    ensures { IfOk result (λ o. IfSome o (λ p. id_in p.1.now ≡ Some p.0)) }
+/// The list of the first field of that name.
+fn list_of<'a>(body: &'a Doc, name: &str) -> Option<&'a [Value]>
+    ensures { option_copied result ≡ option_and_then (λ v. list_in (out-Value v)) (value_of name.now body.now) }
 {
-    let [Value::Doc(doc)] = docs else {
-        return Ok(None);
-    };
-    if size(doc) > MOST_STORED {
-        return Ok(None);
+    match get(body, name)? {
+        Value::List(list) => Some(list.as_slice()),
+        _ => None,
     }
+}
+
+/// The only value of the list, where it is a document.
+fn only_document(values: &[Value]) -> Option<&Doc>
+    ensures { option_copied result ≡ option_and_then (λ v. doc_in (out-Value v)) (only values.now) }
+{
+    match values {
+        [Value::Doc(doc)] => Some(doc),
+        _ => None,
+    }
+}
+
+/// The id of the document.
+fn id_of(alloc: Global, doc: &Doc) -> Result<Option<Id>, AllocError>
+    ensures { IfOk result (λ o. o ≡ id_in doc.now) }
+{
     let Some(value) = get(doc, "_id") else {
         return Ok(None);
     };
     match Id::of(alloc, value) {
-        Ok(id) => Ok(Some((id, doc))),
+        Ok(id) => Ok(Some(id)),
         Err(IdErr::BadId) => Ok(None),
         Err(IdErr::Memory) => Err(AllocError),
     }
 }
 
-/// The insert that the body is: the fields `insert`, `documents` and `$db` alone, the first being `insert`, names
-/// within the limits, and one document of at most 16,777,216 bytes, whose `_id` is a number.
-pub fn read_insert(alloc: Global, body: &Doc) -> Result<Option<Insert>, AllocError>
-    ensures { IfOk result (λ o. IfSome o (λ i. id_in i.doc ≡ Some i.id)) }
+/// Whether the document is short enough to be stored.
+fn can_be_stored(doc: &Doc) -> bool
+    ensures { result ≡ nat_le (length (spelling doc.now)) 16777216 }
 {
-    let Some((collection, docs, database)) = fields_of(body) else {
+    size(doc) <= MOST_STORED
+}
+
+/// The insert of a body with the fields `insert`, `documents` and `$db`.
+#[tactic(auto, unfolding(crate::specs::Inserts::insert_of))]
+fn insert_of(alloc: Global, body: &Doc) -> Result<Option<Insert>, AllocError>
+    ensures insert { IfOk result (λ o. o ≡ insert_of body.now) }
+    ensures kept { IfOk result (λ o. IfSome o (λ i. id_in i.doc ≡ Some i.id)) }
+{
+    let Some(collection) = text_of(body, "insert") else {
         return Ok(None);
     };
-    let Some((id, doc)) = document_of(alloc, docs)? else {
+    let Some(documents) = list_of(body, "documents") else {
+        return Ok(None);
+    };
+    let Some(database) = text_of(body, "$db") else {
+        return Ok(None);
+    };
+    let Some(doc) = only_document(documents) else {
+        return Ok(None);
+    };
+    let Some(id) = id_of(alloc, doc)? else {
         return Ok(None);
     };
     let ns = match Ns::of(alloc, database, collection) {
@@ -71,6 +99,22 @@ pub fn read_insert(alloc: Global, body: &Doc) -> Result<Option<Insert>, AllocErr
         Err(NsErr::Memory) => return Err(AllocError),
         Err(_) => return Ok(None),
     };
+    if !can_be_stored(doc) {
+        return Ok(None);
+    }
     let doc = copy_doc(alloc, doc)?;
     Ok(Some(Insert { ns, id, doc }))
+}
+
+/// The insert that the body is: the fields `insert`, `documents` and `$db` alone, the first being `insert`, names
+/// within the limits, and one document of at most 16,777,216 bytes, whose `_id` is a number.
+#[tactic(auto, unfolding(crate::specs::Inserts::insert_in))]
+pub fn read_insert(alloc: Global, body: &Doc) -> Result<Option<Insert>, AllocError>
+    ensures insert { IfOk result (λ o. o ≡ insert_in body.now) }
+    ensures kept { IfOk result (λ o. IfSome o (λ i. id_in i.doc ≡ Some i.id)) }
+{
+    if body.len() != 3 || command_in(body) != "insert" {
+        return Ok(None);
+    }
+    insert_of(alloc, body)
 }

@@ -1,6 +1,12 @@
-ghost use Rattle.std.specs.Prelude.{◌+◌, ◌<◌, ◌≡◌, length, IfSome};
+ghost use Rattle.std.specs.Prelude.{◌≡◌, ◌<◌, ◌↔◌, ◌++◌, ◌∷◌, ◌==◌, ◌^◌, ℕ, List, length, position, codes, decimal, IfOk, MatchOption};
+ghost use Rattle.hex.specs.declared.error.FromHexError.TheVariants.{OutOfMemory};
+ghost use Rattle.mtx.specs.Lines.{Lacks, lines_of, IsClientLine};
+ghost use Rattle.mtx.specs.Refusals.{from_message};
+ghost use Rattle.mtx.specs.declared.line.LineErr.TheVariants.{Memory};
 
 use hex::FromHexError;
+use itoa::Buffer;
+use op_msg::FrameErr;
 use std::alloc::Global;
 
 /// A line `client C HEX`: bytes that come on a connection.
@@ -19,17 +25,48 @@ pub enum LineErr {
     Memory,
 }
 
+impl From<FromHexError> for LineErr {
+    ghost from_gives = { λ error e. (e ≡ Memory) ↔ (error ≡ OutOfMemory) };
+
+    fn from(error: FromHexError) -> LineErr {
+        match error {
+            FromHexError::OutOfMemory => LineErr::Memory,
+            _ => LineErr::Form,
+        }
+    }
+}
+
+impl From<FrameErr> for LineErr {
+    ghost from_gives = { λ error e. e ≡ from_message error };
+
+    fn from(error: FrameErr) -> LineErr {
+        match error {
+            FrameErr::Memory => LineErr::Memory,
+            FrameErr::TooLarge | FrameErr::Unread => LineErr::Form,
+        }
+    }
+}
+
+/// Where this byte stands first.
+fn place_of(bytes: &[u8], byte: u8) -> Option<usize>
+    ensures { result ≡ position (λ b. b == byte) bytes.now }
+{
+    bytes.iter().position(|b| *b == byte)
+}
+
 /// The bytes before the first of this byte, and those behind it.
 fn split_at_first(bytes: &[u8], byte: u8) -> Option<(&[u8], &[u8])>
-    ensures { IfSome result (λ x. length x.0.now + 1 + length x.1.now ≡ length bytes.now) }
+    ensures { MatchOption result (Lacks byte bytes.now) (λ x. (bytes.now ≡ x.0.now ++ byte ∷ x.1.now) × Lacks byte x.0.now) }
 {
-    let at = bytes.iter().position(|b| *b == byte)?;
+    let at = place_of(bytes, byte)?;
     Some((&bytes[..at], &bytes[at + 1..]))
 }
 
 /// The first line, and the lines behind it. A line ends by a line feed; the last may lack it.
 pub fn next_line(lines: &[u8]) -> (&[u8], &[u8])
-    ensures { 0 < length lines.now → length result.1.now < length lines.now }
+    requires { 0 < length lines.now }
+    ensures parts { lines_of lines.now ≡ result.0.now ∷ lines_of result.1.now }
+    ensures shorter { length result.1.now < length lines.now }
 {
     match split_at_first(lines, b'\n') {
         Some(parts) => parts,
@@ -38,34 +75,54 @@ pub fn next_line(lines: &[u8]) -> (&[u8], &[u8])
 }
 
 /// The number that the digits spell, without a sign or a leading zero.
-fn number_in(digits: &[u8]) -> Option<u32> {
-    let text = str::from_utf8(digits).ok()?;
-    if !digits.iter().all(|digit| digit.is_ascii_digit()) {
+fn number_in(digits: &[u8]) -> Option<u32>
+    ensures { MatchOption result ((n : ℕ) → n < 2 ^ 32 → digits.now ≡ decimal n → ⊥) (λ n. digits.now ≡ decimal n) }
+{
+    let Ok(text) = str::from_utf8(digits) else {
         return None;
-    }
-    if text.len() > 1 && text.as_bytes()[0] == b'0' {
+    };
+    let Ok(number) = text.parse::<u32>() else {
         return None;
+    };
+    let mut buffer = Buffer::new();
+    if buffer.format(number).as_bytes() == digits {
+        Some(number)
+    } else {
+        None
     }
-    text.parse::<u32>().ok()
+}
+
+/// What follows the word `client` and a space.
+fn behind_word(line: &[u8]) -> Option<&[u8]>
+    ensures { MatchOption result ((rest : List ℕ) → line.now ≡ codes "client " ++ rest → ⊥) (λ rest. line.now ≡ codes "client " ++ rest.now) }
+{
+    line.strip_prefix(b"client ".as_slice())
+}
+
+/// The connection's number, and the digits of the bytes.
+fn parts_of(line: &[u8]) -> Option<(u32, &[u8])>
+    ensures { MatchOption result ((n : ℕ) (digits : List ℕ) → n < 2 ^ 32 → 0 < length digits → line.now ≡ codes "client " ++ decimal n ++ 32 ∷ digits → ⊥)
+        (λ x. (line.now ≡ codes "client " ++ decimal x.0 ++ 32 ∷ x.1.now) × (0 < length x.1.now) × (x.0 < 2 ^ 32)) }
+{
+    let rest = behind_word(line)?;
+    let (number, digits) = split_at_first(rest, b' ')?;
+    let connection = number_in(number)?;
+    if digits.is_empty() {
+        None
+    } else {
+        Some((connection, digits))
+    }
 }
 
 /// Reads a line: the word `client`, a connection's number and bytes in hexadecimal, parted by one space.
-pub fn read_line(alloc: Global, line: &[u8]) -> Result<ClientLine, LineErr> {
-    let Some((word, rest)) = split_at_first(line, b' ') else {
+pub fn read_line(alloc: Global, line: &[u8]) -> Result<ClientLine, LineErr>
+    ensures ok { IfOk result (λ l. IsClientLine line.now l.connection l.bytes.items) }
+    // A line is refused exactly where it is outside the form, unless memory runs out.
+    ensures form { result ≡ Err LineErr.Form → (connection : ℕ) (bytes : List ℕ) → IsClientLine line.now connection bytes → ⊥ }
+{
+    let Some((connection, digits)) = parts_of(line) else {
         return Err(LineErr::Form);
     };
-    let Some((digits, hexadecimal)) = split_at_first(rest, b' ') else {
-        return Err(LineErr::Form);
-    };
-    let Some(connection) = number_in(digits) else {
-        return Err(LineErr::Form);
-    };
-    if word != b"client".as_slice() || hexadecimal.is_empty() {
-        return Err(LineErr::Form);
-    }
-    match hex::decode(alloc, hexadecimal) {
-        Ok(bytes) => Ok(ClientLine { connection, bytes }),
-        Err(FromHexError::OutOfMemory) => Err(LineErr::Memory),
-        Err(_) => Err(LineErr::Form),
-    }
+    let bytes = hex::decode(alloc, digits)?;
+    Ok(ClientLine { connection, bytes })
 }

@@ -7,6 +7,7 @@ mod input;
 mod insert;
 pub mod laws;
 mod line;
+mod look;
 mod offline;
 mod reply;
 mod server;

@@ -1,163 +1,210 @@
-ghost use Rattle.std.specs.Prelude.{◌≡◌, ◌≤◌, ◌<◌, ◌+◌, ◌^◌, ◌↔◌, ℕ, Some, map, string_bytes};
-ghost use Rattle.outcomes.specs.Causes.{Rose};
+ghost use Rattle.std.specs.Prelude.{◌≡◌, ◌≤◌, ◌<◌, ◌+◌, ◌^◌, ◌↔◌, ◌⊎◌, ◌++◌, [], ℕ, Some, None, length, map, string_bytes, OnOk, OnErr, IfOk};
+ghost use Rattle.outcomes.specs.Causes.{Rose, FailsOnly};
+ghost use Rattle.outcomes.specs.Told.{Told};
+ghost use Rattle.op_msg.specs.Message.{message};
+ghost use Rattle.outside_core.specs.Bytes.{Went, WentInPart};
 ghost use Rattle.mtx.specs.Words.{word_at_fault};
+ghost use Rattle.mtx.specs.Lines.{lines_of, Asks};
+ghost use Rattle.mtx.specs.Standing.{state_of, StandsAt, HasInserted};
+ghost use Rattle.mtx.specs.Serving.{reply_to, served};
+ghost use Rattle.mtx.specs.Text.{reply_line, dump};
+ghost use Rattle.mtx.specs.Play.{IsBad};
+ghost use Rattle.mtx.specs.Playing.{PlayedAll, PlayedUpTo, PlayedInPart};
+ghost use Rattle.mtx.specs.Ending.{Judges, IsInterrupted, Wrote, IsUnread};
+ghost use Rattle.mtx.specs.declared.status.Status.{Status as AnyStatus};
+ghost use Rattle.mtx.specs.OneLine.{AnsweredLine, AnsweredInPart};
 
 use crate::dump::put_dump;
-use crate::input::{MOST_LINE, MOST_LINES, read_input};
+use crate::input::{End, Input, read_input};
 use crate::line::{ClientLine, LineErr, next_line, read_line};
 use crate::server::Server;
 use crate::status::Status;
 use itoa::Buffer;
-use op_msg::{Frame, FrameErr, read_frame, write_frame};
+use op_msg::{Frame, read_frame, write_frame};
 use outside_core::{Sink, SinkErr, Source, SourceErr, write_all};
 use std::alloc::{AllocError, Global};
 use txn_semantics::Entry;
 
+/// A line has no more bytes.
+const MOST_LINE: usize = 100_000_000;
+
 /// Appends a line with a reply's bytes.
+#[tactic(auto, unfolding(crate::specs::Text::reply_line))]
 fn put_reply(
     alloc: Global,
     out: &mut Vec<u8>,
     connection: u32,
     bytes: &[u8],
-) -> Result<(), AllocError> {
+) -> Result<(), AllocError>
+    ensures { OnOk result (out.new.items ≡ out.old.items ++ reply_line connection bytes.now) }
+{
     let mut buffer = Buffer::new();
+    let digits = hex::encode(alloc, bytes)?;
     out.extend_from_slice(b"reply ")?;
     out.extend_from_slice(buffer.format(connection).as_bytes())?;
     out.extend_from_slice(b" ")?;
-    let digits = hex::encode(alloc, bytes)?;
     out.extend_from_slice(digits.as_bytes())?;
     out.extend_from_slice(b"\n")
 }
 
-/// Serves the message of a line, and appends the line with its reply.
+/// Serves the message of a line, and gives the line with its reply.
 fn serve(
     alloc: Global,
     server: &mut Server,
     connection: u32,
     request: &Frame,
-    out: &mut Vec<u8>,
-) -> Result<(), AllocError>
-    requires { server.old.serial < 2 ^ 32 }
-    ensures { server.new.serial ≤ server.old.serial + 1 }
+) -> Result<Vec<u8>, AllocError>
+    requires few { server.old.serial < 2 ^ 32 }
+    requires history { HasInserted (state_of server.old) }
+    ensures text { IfOk result (λ t. t.items ≡ reply_line connection (message (reply_to (state_of server.old) request.now))) }
+    ensures state { OnOk result (StandsAt server.new (served (state_of server.old) request.now.body)) }
 {
     let reply = server.answer(alloc, request)?;
     let mut bytes = Vec::new(alloc);
-    if write_frame(alloc, &reply, &mut bytes).is_err() {
+    // A reply is little longer than its request, which came in a line, so it is never too large for a message.
+    let Ok(()) = write_frame(alloc, &reply, &mut bytes) else {
         return Err(AllocError);
-    }
-    put_reply(alloc, out, connection, bytes.as_slice())
+    };
+    let mut text = Vec::new(alloc);
+    put_reply(alloc, &mut text, connection, bytes.as_slice())?;
+    Ok(text)
 }
 
-/// Plays one line, and appends what it writes.
-fn play_line(
-    alloc: Global,
-    server: &mut Server,
-    line: &[u8],
-    out: &mut Vec<u8>,
-) -> Result<(), LineErr>
-    requires { server.old.serial < 2 ^ 32 }
-    ensures { server.new.serial ≤ server.old.serial + 1 }
+/// What a line asks: the connection, and the message that comes on it.
+#[derive(Drop)]
+struct Ask {
+    connection: u32,
+    request: Frame,
+}
+
+/// Reads what a line asks.
+fn read_ask(alloc: Global, line: &[u8]) -> Result<Ask, LineErr>
+    ensures ok { IfOk result (λ a. Asks line.now (record { connection = a.connection; request = a.request })) }
+    ensures form { result ≡ Err LineErr.Form → IsBad line.now }
 {
-    if line.len() as u64 > MOST_LINE {
+    if line.len() > MOST_LINE {
         return Err(LineErr::Form);
     }
     let ClientLine { connection, bytes } = read_line(alloc, line)?;
-    let request = match read_frame(alloc, bytes.as_slice()) {
-        Ok(request) => request,
-        Err(FrameErr::Memory) => return Err(LineErr::Memory),
-        Err(_) => return Err(LineErr::Form),
-    };
-    match serve(alloc, server, connection, &request, out) {
-        Ok(()) => Ok(()),
-        Err(AllocError) => Err(LineErr::Memory),
-    }
+    let request = read_frame(alloc, bytes.as_slice())?;
+    Ok(Ask {
+        connection,
+        request,
+    })
 }
 
-/// Plays one line, and writes its reply.
-fn play_one<K: Sink>(
+/// Why the playing of lines stopped.
+#[derive(Clone, Copy, Debug, PartialEq, Eq)]
+enum Stop {
+    /// The line, from 1, is outside the form.
+    BadLine { line: u64 },
+    /// The sink failed.
+    WriteFault,
+    /// There was no memory.
+    Memory,
+}
+
+/// Plays one line, the one of that number, and writes its reply.
+fn play_line<K: Sink>(
     alloc: Global,
     server: &mut Server,
     number: u64,
     line: &[u8],
     out: &mut K,
-) -> Status
-    requires { server.old.serial < 2 ^ 32 }
-    ensures drawn { server.new.serial ≤ server.old.serial + 1 }
-    ensures write { result ≡ Status.WriteFault → Rose (K.fault_count out.old) (K.fault_count out.new) }
-    ensures later { K.fault_count out.old ≤ K.fault_count out.new }
-    ensures read { result ≡ Status.ReadFault → ⊥ }
-    ensures words { (index : ℕ) → result ≡ Status.BadWords index → ⊥ }
+) -> Result<(), Stop>
+    requires few { server.old.serial < 2 ^ 32 }
+    requires history { HasInserted (state_of server.old) }
+    ensures ok { OnOk result (AnsweredLine line.now server.old server.new (K.held out.old) (K.held out.new)) }
+    ensures bad { (n : ℕ) → result ≡ Err (Stop.BadLine n) → (n ≡ number) × IsBad line.now × (K.held out.new ≡ K.held out.old) }
+    ensures part { OnErr result (AnsweredInPart line.now server.old (K.held out.old) (K.held out.new)) }
+    ensures faults { FailsOnly Stop.WriteFault (K.fault_count out.old) (K.fault_count out.new) result }
 {
-    let mut text = Vec::new(alloc);
-    match play_line(alloc, server, line, &mut text) {
-        Ok(()) => write_text(out, text.as_slice()),
-        Err(LineErr::Form) => Status::BadLine { line: number },
-        Err(LineErr::Memory) => Status::Memory,
+    let ask = match read_ask(alloc, line) {
+        Ok(ask) => ask,
+        Err(LineErr::Form) => return Err(Stop::BadLine { line: number }),
+        Err(LineErr::Memory) => return Err(Stop::Memory),
+    };
+    let Ok(text) = serve(alloc, server, ask.connection, &ask.request) else {
+        return Err(Stop::Memory);
+    };
+    match write_all(out, text.as_slice()) {
+        Ok(()) => Ok(()),
+        Err(SinkErr::Failed) => Err(Stop::WriteFault),
+        Err(SinkErr::Memory) => Err(Stop::Memory),
     }
 }
 
-/// Writes the text.
-fn write_text<K: Sink>(out: &mut K, text: &[u8]) -> Status
-    ensures write { result ≡ Status.WriteFault → Rose (K.fault_count out.old) (K.fault_count out.new) }
-    ensures later { K.fault_count out.old ≤ K.fault_count out.new }
-    ensures read { result ≡ Status.ReadFault → ⊥ }
-    ensures words { (index : ℕ) → result ≡ Status.BadWords index → ⊥ }
-{
-    match write_all(out, text) {
-        Ok(()) => Status::Ok,
-        Err(SinkErr::Failed) => Status::WriteFault,
-        Err(SinkErr::Memory) => Status::Memory,
-    }
+/// The server behind all lines, and how many there were.
+#[derive(Drop)]
+struct Behind {
+    server: Server,
+    lines: u64,
 }
 
-/// Writes the list of commits.
-fn write_dump<K: Sink>(alloc: Global, entries: &[Entry], out: &mut K) -> Status
-    ensures write { result ≡ Status.WriteFault → Rose (K.fault_count out.old) (K.fault_count out.new) }
-    ensures later { K.fault_count out.old ≤ K.fault_count out.new }
-    ensures read { result ≡ Status.ReadFault → ⊥ }
-    ensures words { (index : ℕ) → result ≡ Status.BadWords index → ⊥ }
-{
-    let mut text = Vec::new(alloc);
-    match put_dump(alloc, &mut text, entries) {
-        Ok(()) => write_text(out, text.as_slice()),
-        Err(AllocError) => Status::Memory,
-    }
-}
-
-/// Plays the lines in their order, and writes the replies and then the list of commits.
-fn play_lines<K: Sink>(alloc: Global, input: &[u8], out: &mut K) -> Status
-    ensures write { result ≡ Status.WriteFault → Rose (K.fault_count out.old) (K.fault_count out.new) }
-    ensures read { result ≡ Status.ReadFault → ⊥ }
-    ensures words { (index : ℕ) → result ≡ Status.BadWords index → ⊥ }
+/// Plays the lines in their order, and writes their replies.
+fn play_lines<K: Sink>(alloc: Global, input: &[u8], out: &mut K) -> Result<Behind, Stop>
+    requires { length (lines_of input.now) ≤ 10000000 }
+    ensures ok { IfOk result (λ b. PlayedAll input.now b.lines b.server (K.held out.old) (K.held out.new)) }
+    ensures bad { (n : ℕ) → result ≡ Err (Stop.BadLine n) → PlayedUpTo n input.now (K.held out.old) (K.held out.new) }
+    ensures part { OnErr result (PlayedInPart input.now (K.held out.old) (K.held out.new)) }
+    ensures faults { FailsOnly Stop.WriteFault (K.fault_count out.old) (K.fault_count out.new) result }
 {
     let mut server = Server::new(alloc);
     let mut rest = input;
-    let mut number: u64 = 0;
+    let mut lines: u64 = 0;
     while !rest.is_empty() {
-        if number >= MOST_LINES {
-            return Status::Budget;
-        }
-        number += 1;
+        lines += 1;
         let (line, after) = next_line(rest);
-        let status = play_one(alloc, &mut server, number, line, out);
-        if status != Status::Ok {
-            return status;
-        }
+        play_line(alloc, &mut server, lines, line, out)?;
         rest = after;
     }
-    write_dump(alloc, &server.entries, out)
+    Ok(Behind { server, lines })
+}
+
+/// Writes the list of commits.
+fn write_dump<K: Sink>(alloc: Global, entries: &[Entry], out: &mut K) -> Result<(), SinkErr>
+    ensures ok { OnOk result (Went (K.held out.old) (K.held out.new) (dump entries.now)) }
+    ensures part { WentInPart (K.held out.old) (K.held out.new) (dump entries.now) }
+    ensures faults { FailsOnly SinkErr.Failed (K.fault_count out.old) (K.fault_count out.new) result }
+{
+    let mut text = Vec::new(alloc);
+    let Ok(()) = put_dump(alloc, &mut text, entries) else {
+        return Err(SinkErr::Memory);
+    };
+    write_all(out, text.as_slice())
 }
 
 /// Reads the whole schedule, and then plays it.
 fn play<S: Source, K: Sink>(alloc: Global, src: &mut S, out: &mut K) -> Status
-    ensures read { result ≡ Status.ReadFault → Rose (S.fault_count src.old) (S.fault_count src.new) }
-    ensures write { result ≡ Status.WriteFault → Rose (K.fault_count out.old) (K.fault_count out.new) }
+    ensures at_end { result ≡ Status.Ok → Told (S.left src.old) (λ _. S.left src.new ≡ Some []) }
+    ensures judged { Told (S.left src.old) (λ input. Judges input result ⊎ IsInterrupted result) }
+    ensures text { Told (S.left src.old) (λ input. Told (K.held out.old) (λ before. Told (K.held out.new) (λ after. Wrote input before after result))) }
+    ensures unread { IsUnread result → K.held out.new ≡ K.held out.old }
     ensures words { (index : ℕ) → result ≡ Status.BadWords index → ⊥ }
+    ensures read_fault { result ≡ Status.ReadFault → Rose (S.fault_count src.old) (S.fault_count src.new) }
+    ensures write_fault { result ≡ Status.WriteFault → Rose (K.fault_count out.old) (K.fault_count out.new) }
 {
-    match read_input(alloc, src) {
-        Ok(input) => play_lines(alloc, input.as_slice(), out),
-        Err(SourceErr::Failed) => Status::ReadFault,
-        Err(SourceErr::Memory) => Status::Memory,
+    let input = match read_input(alloc, src) {
+        Ok(input) => input,
+        Err(SourceErr::Failed) => return Status::ReadFault,
+        Err(SourceErr::Memory) => return Status::Memory,
+    };
+    let behind = match play_lines(alloc, input.bytes.as_slice(), out) {
+        Ok(behind) => behind,
+        Err(Stop::BadLine { line }) => return Status::BadLine { line },
+        Err(Stop::WriteFault) => return Status::WriteFault,
+        Err(Stop::Memory) => return Status::Memory,
+    };
+    match input.end {
+        End::LongLine => Status::BadLine {
+            line: behind.lines + 1,
+        },
+        End::ManyLines => Status::Budget,
+        End::Whole => match write_dump(alloc, &behind.server.entries, out) {
+            Ok(()) => Status::Ok,
+            Err(SinkErr::Failed) => Status::WriteFault,
+            Err(SinkErr::Memory) => Status::Memory,
+        },
     }
 }
 
@@ -170,6 +217,14 @@ pub fn offline<S: Source, K: Sink>(
 ) -> Status
     // The words are refused exactly where they are no command.
     ensures bad_words { (index : ℕ) → (result ≡ Status.BadWords index) ↔ (word_at_fault (map string_bytes words.now) ≡ Some index) }
+    // The status is the schedule's, or something outside failed, or there was no memory.
+    ensures judged { word_at_fault (map string_bytes words.now) ≡ None → Told (S.left src.old) (λ input. Judges input result ⊎ IsInterrupted result) }
+    // A schedule has one status.
+    ensures found { word_at_fault (map string_bytes words.now) ≡ None → Told (S.left src.old) (λ input. (status : AnyStatus) → Judges input status → (result ≡ status) ⊎ IsInterrupted result) }
+    // What was written is the text of the lines that were played, and the answers are those of one list of commits.
+    ensures text { Told (S.left src.old) (λ input. Told (K.held out.old) (λ before. Told (K.held out.new) (λ after. Wrote input before after result))) }
+    ensures at_end { result ≡ Status.Ok → Told (S.left src.old) (λ _. S.left src.new ≡ Some []) }
+    ensures unread { IsUnread result → K.held out.new ≡ K.held out.old }
     // A fault is answered only where that object's count rose in this call.
     ensures read_fault { result ≡ Status.ReadFault → Rose (S.fault_count src.old) (S.fault_count src.new) }
     ensures write_fault { result ≡ Status.WriteFault → Rose (K.fault_count out.old) (K.fault_count out.new) }

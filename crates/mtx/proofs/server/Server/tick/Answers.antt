@@ -1,4 +1,4 @@
-use Rattle.std.proofs.Common.{◌≡◌, ◌<◌, ◌≤◌, ◌-◌, ◌^◌, ◌↔◌, ℕ, Result, Ok, Err, IfOk, refl, sym, ◌∙◌, arith}
+use Rattle.std.proofs.Common.{◌≡◌, ◌<◌, ◌-◌, ◌^◌, ◌↔◌, ℕ, Result, Ok, Err, IfOk, refl, ◌∙◌, arith}
 use Rattle.txn_types.specs.Clock.{next_time, wanted_ceiling}
 use Rattle.txn_types.specs.declared.time.ClockErr.{ClockErr}
 use Rattle.txn_types.specs.declared.time.ClockErr.TheVariants.{ClockEnd, NeedCeiling}
