@@ -1,25 +1,22 @@
 -- What the server's fields say of the state behind the requests that were read: its reply is that state's, and its
 -- commits are of inserts alone.
-use Rattle.std.proofs.Common.{◌≡◌, ℕ, ◌≤◌, ◌+◌, Bool, true, false, cond, List, [], ◌∷◌, length, Option, Some, None, Ok, Err, sym, ap, subst, ◌∙◌, arith}
+use Rattle.std.proofs.Common.{◌≡◌, ℕ, ◌≤◌, ◌+◌, List, [], ◌∷◌, length, Option, Some, None, Ok, Err, sym, ap, subst, ◌∙◌, arith}
 use Rattle.std.specs.Result.{IfOk}
 use Rattle.std.proofs.lemmas.List.Elements.{All-push, All-weaker}
 use Rattle.bson_core.specs.Fields.{Document}
 use Rattle.op_msg.specs.declared.frame.Frame.{Frame}
-use Rattle.txn_types.specs.Ids.{id_in}
-use Rattle.txn_types.specs.declared.id.Id.{Id}
 use Rattle.txn_types.specs.declared.operation.InsertItem.{InsertItem}
 use Rattle.txn_types.specs.declared.operation.Op.TheVariants.{Insert as InsertOp}
-use Rattle.txn_types.specs.declared.operation.What.TheVariants.{Duplicate}
 use Rattle.txn_semantics.specs.declared.commits.Entry.{Entry}
-use Rattle.txn_semantics.specs.Rows.{Row, holds_id}
+use Rattle.txn_semantics.specs.Rows.{Row}
 use Rattle.txn_semantics.specs.View.{view}
-use Rattle.txn_semantics.specs.Effect.{Doing, nothing, after, insert_new}
-use Rattle.txn_semantics.specs.Meaning.{Meaning, eval, meaning_of, count_met, put_of}
+use Rattle.txn_semantics.specs.Meaning.{Meaning, eval}
 use Rattle.mtx.specs.declared.insert.Insert.{Insert}
 use Rattle.mtx.specs.declared.server.Server.{Server}
 use Rattle.mtx.specs.Inserts.{insert_in}
 use Rattle.mtx.specs.Serving.{State, first_state, commit_time, tag_of, meaning, with_answer, inserted, reply_to, served, served_all}
 use Rattle.mtx.specs.Standing.{state_of, StandsAt, ArePuts, HasInserted}
+use Rattle.mtx.proofs.Once.{insert_means}
 
 -- a state of these fields
 abbrev at_fields : ℕ → ℕ → List Entry → State → State
@@ -48,20 +45,8 @@ served_stands server server' s at body h = subst (λ (t : State). StandsAt serve
 abbrev OnlyPuts : Meaning → Type 0
 OnlyPuts m = IfOk m (λ ok. ArePuts ok.1)
 
-abbrev meaning_one : List ℕ → Doing → Meaning
-meaning_one ns doing = meaning_of count_met (put_of ns) (after doing (λ _. Ok nothing))
-
-puts_by_place : (ns : List ℕ) (item : InsertItem) (id : Id) (there : Bool)
-    → OnlyPuts (meaning_one ns (cond there (Err (record { index = item.index; id = id; what = Duplicate })) (Ok (record { met = (id, item.doc) ∷ []; changed = (id, item.doc) ∷ [] }))))
-puts_by_place ns item id true = tt
-puts_by_place ns item id false = tt
-
-puts_by_id : (ns : List ℕ) (item : InsertItem) (rows : List Row) (o : Option Id) → OnlyPuts (meaning_one ns (elim o [ None ↦ Ok nothing | Some id ↦ insert_new item rows id ]))
-puts_by_id ns item rows None = tt
-puts_by_id ns item rows (Some id) = puts_by_place ns item id (holds_id id rows)
-
 insert_only_puts : (ns : List ℕ) (item : InsertItem) (rows : List Row) → OnlyPuts (eval (InsertOp ns (item ∷ [])) rows)
-insert_only_puts ns item rows = puts_by_id ns item rows (id_in item.doc)
+insert_only_puts ns item rows = insert_means OnlyPuts ns item rows tt (λ id. tt) (λ id. tt)
 
 answer_inserts : (s : State) (i : Insert) (m : Meaning) → OnlyPuts m → HasInserted s → HasInserted (with_answer s i m)
 answer_inserts s i (Err e) puts h = record { past = h.past; puts = h.puts }

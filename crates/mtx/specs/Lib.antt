@@ -13,3 +13,4 @@ pub mod Playing
 pub mod OneLine
 pub mod Ending
 pub mod Refusals
+pub mod Statuses

@@ -1,3 +1,6 @@
+ghost use Rattle.std.specs.Prelude.{◌≡◌, Some};
+ghost use Rattle.mtx.specs.Statuses.{exit_status, words_of};
+
 use std::fmt;
 
 /// How a command ended.
@@ -21,7 +24,9 @@ pub enum Status {
 
 impl Status {
     /// The exit status of the process.
-    pub fn number(self) -> u8 {
+    pub fn number(self) -> u8
+        ensures { result ≡ exit_status self }
+    {
         match self {
             Status::Ok => 0,
             Status::BadWords { .. } => 2,
@@ -35,6 +40,8 @@ impl Status {
 }
 
 impl fmt::Display for Status {
+    ghost output = { λ s. Some (words_of s) };
+
     fn fmt<W: fmt::Write>(&self, f: &mut fmt::Formatter<W>) -> fmt::Result {
         match self {
             Status::Ok => write!(f, "ok"),

@@ -20,8 +20,7 @@ const REPLY: &str = "reply 1 a60000000000000007000000dd0700000000000000\
 const DUMP: &str = "dump 1\ncommit 1.1 tag 0.1.1 read 0.0\n\
 write 0 d.c 15000000105f696400010000001061000500000000\n";
 
-/// The insert of `{_id: 1, a: 0}` as request 1 on connection 0, and behind it, as request 2, an insert whose `_id` is
-/// 1 as an int64.
+/// The insert of `{_id: 1, a: 0}` on connection 0, and behind it an insert of `{_id: 1}` with the 1 as an int64.
 const TWO_INSERTS: &str =
     "client 0 5b0000000100000000000000dd07000000000000004600000002696e736572740002000000630004646f63756d656e7473001d0\
 0000003300015000000105f69640001000000106100000000000000022464620002000000640000\n\

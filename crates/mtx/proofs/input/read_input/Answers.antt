@@ -1,4 +1,4 @@
-use Rattle.std.proofs.Common.{◌≤◌, [], length, take, sym, subst, arith}
+use Rattle.std.proofs.Common.{ℕ, ◌≤◌, List, [], length, take, sym, subst, arith}
 use Rattle.outside_core.proofs.Steps.{Reading, reading_none}
 use Rattle.mtx.specs.Lines.{lines_of}
 use Rattle.mtx.specs.Input.{IsInput}
@@ -36,4 +36,4 @@ returns-then-branch-eq0-clause-few g c =
 pub returns-in-Some-clause-few : goal.returns-in-Some-clause-few
 returns-in-Some-clause-few g c =
     let few = few_stopped _ _ c.in-Some.end c.in-Some.ensures.0 c.in-Some.ensures.1 in
-    subst (λ b. length (lines_of b) ≤ 10000000) (sym c.truncate.ensures.items) (subst (λ b. length (lines_of (take c.end_in.new.self.whole b)) ≤ 10000000) c.deref.ensures.value few)
+    subst (λ b. length (lines_of b) ≤ 10000000) (sym {A = List ℕ} c.truncate.ensures.items) (subst (λ b. length (lines_of (take c.end_in.new.self.whole b)) ≤ 10000000) c.deref.ensures.value few)
