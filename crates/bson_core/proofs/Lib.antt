@@ -1,8 +1,10 @@
 pub mod Again
+pub mod Apart
+pub mod InGrammar
 pub mod Lengths
 pub mod Loop
 pub mod Names
-pub mod Refused
 pub mod Sound
 pub mod Spelled
+pub mod TypeBytes
 pub mod Whole

@@ -1,6 +1,6 @@
 -- Which bytes are a document, in the grammar of BSON 1.1 (bsonspec.org): a relation of a whole byte string and a
 -- document, by cases on the kinds. It goes by the number of levels, so that the limit on nesting is in it.
-use Rattle.std.specs.Prelude.{◌≡◌, ℕ, zero, suc, ◌+◌, ◌-◌, ◌^◌, ◌<◌, ◌==◌, Bool, true, ◌||◌, IsTrue, List, [], ◌∷◌, ◌++◌, length, map, FitsSigned}
+use Rattle.std.specs.Prelude.{◌≡◌, ℕ, zero, suc, ◌+◌, ◌-◌, ◌^◌, ◌<◌, true, List, [], ◌∷◌, ◌++◌, length, map, FitsSigned}
 use Rattle.std.specs.Int.{w32, w64, to_le_bytes, cast_unsigned}
 use Rattle.std.specs.Str.{is_utf8}
 use Rattle.bson_core.specs.declared.value.Value.{Value}
@@ -15,15 +15,11 @@ use Rattle.bson_core.specs.Spelling.{text, framed, binary, bit}
 abbrev pub Relation : Type 1
 Relation = ℕ → List ℕ → Type 0
 
--- the kinds that are read so far: text, document, list, int32, int64
-abbrev pub is_read : ℕ → Bool
-is_read kind = kind == 2 || kind == 3 || kind == 4 || kind == 16 || kind == 18
-
 -- elements one after the other: a kind, a name, a 00 and a value
 abbrev pub ReadsElements : (Value → Relation) → Document → List ℕ → Type 0
 ReadsElements reads [] bytes = bytes ≡ []
 ReadsElements reads (field ∷ fields) bytes =
-    (kind : ℕ) × (value : List ℕ) × (rest : List ℕ) × IsTrue (is_read kind) × reads field.1 kind value × IsName field.0 × (bytes ≡ (kind ∷ field.0 ++ 0 ∷ value) ++ rest) × ReadsElements reads fields rest
+    (kind : ℕ) × (value : List ℕ) × (rest : List ℕ) × reads field.1 kind value × IsName field.0 × (bytes ≡ (kind ∷ field.0 ++ 0 ∷ value) ++ rest) × ReadsElements reads fields rest
 
 -- the values of a document, whatever their names
 abbrev pub values_of : Document → List Value

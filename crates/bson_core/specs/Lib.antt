@@ -1,5 +1,9 @@
 pub mod Names
+pub mod Kinds
 pub mod Fields
 pub mod Spelling
+pub mod Order
 pub mod Grammar
+pub mod Nesting
+pub mod Written
 pub mod Reading

@@ -3,6 +3,8 @@
 
 mod error;
 mod fields;
+mod kind;
+mod laws;
 mod reading;
 mod sizes;
 mod text;
@@ -11,7 +13,11 @@ mod writing;
 
 pub use error::BsonErr;
 pub use fields::{get, set};
-pub use reading::decode;
+pub use laws::{
+    documents_are_told_apart, grammar_has_no_fault, reading_undoes_writing,
+    spelling_is_in_the_grammar,
+};
+pub use reading::{decode, front_u32};
 pub use sizes::size;
 pub use text::{Bytes, Name, Text};
 pub use value::{Bin, Doc, List, Value, copy_doc, copy_list};

@@ -9,7 +9,7 @@ use itoa::Buffer;
 const FRAME: u64 = 5;
 
 /// The bytes of an object id.
-fn id_size(bytes: &[u8; 12]) -> u64
+pub(crate) fn id_size(bytes: &[u8; 12]) -> u64
     ensures bytes { result ≡ length bytes.now }
     ensures twelve { result ≡ 12 }
 {

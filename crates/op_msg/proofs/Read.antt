@@ -2,7 +2,7 @@
 use Rattle.std.proofs.Common.{◌≡◌, ℕ, ℤ, ◌+◌, ◌<◌, ◌≤◌, inl, inr, List, [], ◌++◌, false, length, Ok, Err, arith, ap, ◌∙◌, FitsSigned, subst}
 use Rattle.std.specs.Int.{w32}
 use Rattle.bson_core.specs.declared.error.BsonErr.{BsonErr}
-use Rattle.bson_core.specs.declared.error.BsonErr.TheVariants.{TooLarge, Memory, Unread}
+use Rattle.bson_core.specs.declared.error.BsonErr.TheVariants.{Memory}
 use Rattle.bson_core.specs.Fields.{Document}
 use Rattle.bson_core.specs.Grammar.{Reads}
 use Rattle.bson_core.specs.Reading as body
@@ -27,9 +27,8 @@ is_read f request_id response_to body bytes p q e m =
 
 -- a body that isn't read, though it could be, is want of memory
 pub is_want : (error : BsonErr) (doc : Document) (f : Frame) → body.Gives (λ (d : Document). d) (Err error) (Ok doc) → Gives (Err (from_body error)) (Ok f)
-is_want TooLarge doc f h = cc
 is_want Memory doc f h = tt
-is_want Unread doc f h = cc
+is_want fault doc f h = cc
 
 pub too_long : (bytes : List ℕ) (f : Frame) → IsMessage bytes f → 48000000 < length bytes → is_internal f.body ≡ false → ⊥
 too_long bytes f m h e = elim m.limits.client [ inl a ↦ omega arith | inr a ↦ cc ]

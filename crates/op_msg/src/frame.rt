@@ -56,9 +56,14 @@ impl From<BsonErr> for FrameErr {
 
     fn from(error: BsonErr) -> FrameErr {
         match error {
-            BsonErr::TooLarge => FrameErr::TooLarge,
             BsonErr::Memory => FrameErr::Memory,
-            BsonErr::Unread => FrameErr::Unread,
+            BsonErr::Short
+            | BsonErr::Length { .. }
+            | BsonErr::Kind { .. }
+            | BsonErr::Text { .. }
+            | BsonErr::Bool { .. }
+            | BsonErr::Deep { .. }
+            | BsonErr::TooLarge => FrameErr::Unread,
         }
     }
 }

@@ -1,6 +1,6 @@
 use Rattle.std.proofs.Common.{subst, arith}
 use Rattle.bson_core.specs.Reading.{Gives}
-use Rattle.bson_core.proofs.Whole.{is_found, is_refused, whole_again}
+use Rattle.bson_core.proofs.Whole.{is_found, whole_again}
 use Rattle.bson_core.proofs.reading.decode.Goals as goal
 
 pub returns-clause-found : goal.returns-clause-found
@@ -8,6 +8,3 @@ returns-clause-found c = is_found c.args.limit c.args.bytes.now c.read_whole.res
 
 pub returns-clause-only : goal.returns-clause-only
 returns-clause-only c = λ d reads short. subst (λ r. Gives (λ d. d) c.read_whole.result r) (whole_again c.args.limit c.args.bytes.now d reads short) c.read_whole.ensures
-
-pub returns-clause-refused : goal.returns-clause-refused
-returns-clause-refused c = is_refused c.args.limit c.args.bytes.now c.read_whole.result c.read_whole.ensures
