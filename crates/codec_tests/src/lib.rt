@@ -1,4 +1,4 @@
-//! Tests of the crates that read and write bytes: outside_core, bson_core, op_msg. They stand in a crate of their
+//! Tests of the crates that read and write bytes: outside_core, bson_core, bson_text, op_msg. They stand in a crate of their
 //! own, since a crate with tests is proved twice.
 #![tactic(auto)]
 
@@ -8,3 +8,5 @@ mod documents;
 mod messages;
 #[cfg(test)]
 mod outside;
+#[cfg(test)]
+mod text;

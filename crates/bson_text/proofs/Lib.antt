@@ -1,0 +1,4 @@
+pub mod Equations
+pub mod Escapes
+pub mod Pieces
+pub mod Printable
