@@ -1,0 +1,4 @@
+pub mod Unfolded
+pub mod Pairs
+pub mod Unlike
+pub mod Ends

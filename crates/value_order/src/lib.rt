@@ -1,0 +1,6 @@
+//! The order of values.
+#![tactic(auto)]
+
+mod order;
+
+pub use order::{bracket, compare};
