@@ -1,7 +1,7 @@
 -- The order of values. It goes by bracket, that is by the kind, where the two kinds of numbers are in one bracket: a
 -- number is compared by its value, whatever its kind. The MongoDB manual's comparison order of BSON types is the model;
 -- the brackets are this project's own. `Less` stands for "comes before", `Equal` for "in the same place".
-use Rattle.std.specs.Prelude.{ℕ, ℤ, pos, Bool, true, false, List, [], ◌∷◌, map, length}
+use Rattle.std.specs.Prelude.{ℕ, ℤ, pos, true, List, [], ◌∷◌, map, length}
 use Rattle.std.specs.declared.cmp.Ordering.{Ordering}
 use Rattle.std.specs.declared.cmp.Ordering.TheVariants.{Less, Equal, Greater}
 use Rattle.std.specs.Ordering.{ordering_then, nat_cmp, int_cmp}

@@ -1,5 +1,5 @@
 -- Two values of one kind, and two that no kind holds both.
-use Rattle.std.proofs.Common.{◌≡◌, ℕ, ℤ, List, [], ◌∷◌, map, length, refl, ap, ◌∙◌, sym, Bool, true, false, pos, arith}
+use Rattle.std.proofs.Common.{◌≡◌, ℕ, ℤ, List, [], ◌∷◌, map, refl, ap, ◌∙◌, sym, Bool, true, false, pos, arith}
 use Rattle.std.specs.declared.cmp.Ordering.{Ordering}
 use Rattle.std.specs.declared.cmp.Ordering.TheVariants.{Less, Equal, Greater}
 use Rattle.std.specs.Ordering.{ordering_then, nat_cmp, int_cmp, bool_cmp}
@@ -13,11 +13,11 @@ use Rattle.bson_core.specs.declared.value.Value.TheOpen.{Value-F}
 use Rattle.bson_core.specs.declared.value.Value.TheVariants as variants
 use Rattle.bson_core.specs.declared.value.Value.TheViews as views
 use Rattle.bson_core.specs.declared.value.Value.TheViews.{out-Value, roll-Value, out-roll-Value, roll-out-Value}
-use Rattle.bson_core.specs.Order.{bracket, bracket_of, value_cmp}
-use Rattle.value_order.specs.Parts.{field_cmp}
+use Rattle.bson_core.specs.Order.{bracket, value_cmp}
+use Rattle.value_order.specs.Parts.{binary_cmp, field_cmp}
 use Rattle.value_order.proofs.Unfolded.{Part, unnamed, level, opened, then_again}
 
-then_equal : (o : Ordering) → ordering_then o Equal ≡ o
+pub then_equal : (o : Ordering) → ordering_then o Equal ≡ o
 then_equal Less = refl
 then_equal Equal = refl
 then_equal Greater = refl
@@ -36,6 +36,17 @@ decided m n o apart = go (nat_cmp m n) refl
 
 pub apart : (a b : Value) → (bracket a ≡ bracket b → ⊥) → value_cmp a b ≡ nat_cmp (bracket a) (bracket b)
 apart a b h = brackets_first a b ∙ decided (bracket a) (bracket b) (value_cmp a b) h
+
+same_bracket : (m n : ℕ) (o : Ordering) → ordering_then (nat_cmp m n) o ≡ Equal → m ≡ n
+same_bracket m n o h = exact_unsigned m n (go (nat_cmp m n) h)
+  where
+    go : (r : Ordering) → ordering_then r o ≡ Equal → r ≡ Equal
+    go Less e = e
+    go Equal e = refl
+    go Greater e = e
+
+pub alike : (a b : Value) → value_cmp a b ≡ Equal → bracket a ≡ bracket b
+alike a b h = same_bracket (bracket a) (bracket b) (value_cmp a b) (sym (brackets_first a b) ∙ h)
 
 rolled : (x y : Value-F Value) → value_cmp (roll-Value x) (roll-Value y) ≡ level field_cmp x y
 rolled x y = rw (opened (roll-Value x) (roll-Value y), out-roll-Value x, out-roll-Value y) refl
@@ -74,9 +85,9 @@ pub lists : (xs ys : List Value) → value_cmp (views.List xs) (views.List ys) �
 unfolding views.roll-Value denote.Hole.Carrier.roll
 lists xs ys = rolled (of.List xs) (of.List ys) ∙ unnamed_are xs ys
 
-pub binaries : (a b : Bin) → value_cmp (variants.Bin a) (variants.Bin b) ≡ ordering_then (nat_cmp (length a.bytes) (length b.bytes)) (ordering_then (nat_cmp a.subtype b.subtype) (slice_cmp nat_cmp a.bytes b.bytes))
+pub binaries : (a b : Bin) → value_cmp (variants.Bin a) (variants.Bin b) ≡ binary_cmp a b
 unfolding views.roll-Value denote.Hole.Carrier.roll
-binaries a b = rolled (of.Bin a) (of.Bin b) ∙ then_equal (ordering_then (nat_cmp (length a.bytes) (length b.bytes)) (ordering_then (nat_cmp a.subtype b.subtype) (slice_cmp nat_cmp a.bytes b.bytes)))
+binaries a b = rolled (of.Bin a) (of.Bin b) ∙ then_equal (binary_cmp a b)
 
 pub object_ids : (a b : List ℕ) → value_cmp (variants.Oid a) (variants.Oid b) ≡ slice_cmp nat_cmp a b
 unfolding views.roll-Value denote.Hole.Carrier.roll

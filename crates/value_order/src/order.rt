@@ -1,13 +1,13 @@
-ghost use Rattle.std.specs.Prelude.{◌≡◌, length};
-ghost use Rattle.std.specs.Ordering.{ordering_then, nat_cmp};
+ghost use Rattle.std.specs.Prelude.{◌≡◌};
 ghost use Rattle.std.specs.Cmp.Lexicographic.{slice_cmp};
 ghost use Rattle.bson_core.specs.Order.{bracket, value_cmp};
-ghost use Rattle.value_order.specs.Parts.{field_cmp};
+ghost use Rattle.value_order.specs.Parts.{binary_cmp, field_cmp};
 
 use bson_core::{Bin, Name, Value};
 use std::cmp::Ordering;
 
-/// The bracket of the value's kind: 1 to 10, rising as the kinds do.
+/// The bracket of the value's kind, 1 to 10: null, numbers, texts, documents, lists, binaries, object ids, truth values,
+/// dates, timestamps.
 pub fn bracket(value: &Value) -> u8
     ensures { result ≡ bracket value.now }
 {
@@ -25,7 +25,8 @@ pub fn bracket(value: &Value) -> u8
     }
 }
 
-/// How one value stands beside another.
+/// Where one value stands beside another: first by their brackets, then by what they are. The model is the MongoDB
+/// manual's comparison order of BSON types. It takes no memory, and time up to the size of the smaller value.
 #[cycle(compare)]
 #[tactic(auto, using(crate::proofs::Pairs::pairs))]
 pub fn compare(a: &Value, b: &Value) -> Ordering
@@ -50,7 +51,7 @@ pub fn compare(a: &Value, b: &Value) -> Ordering
 
 /// By length, then by subtype, then by the bytes.
 fn compare_binaries(a: &Bin, b: &Bin) -> Ordering
-    ensures { result ≡ ordering_then (nat_cmp (length a.now.bytes) (length b.now.bytes)) (ordering_then (nat_cmp a.now.subtype b.now.subtype) (slice_cmp nat_cmp a.now.bytes b.now.bytes)) }
+    ensures { result ≡ binary_cmp a.now b.now }
 {
     let bytes = a.bytes.as_slice();
     let others = b.bytes.as_slice();
@@ -74,28 +75,28 @@ fn compare_fields(name: &Name, value: &Value, other_name: &Name, other: &Value) 
 
 /// Field by field; a proper prefix comes first.
 #[cycle(compare)]
-fn compare_documents(a: &[(Name, Value)], b: &[(Name, Value)]) -> Ordering
-    ensures { result ≡ slice_cmp field_cmp a.now b.now }
+fn compare_documents(fields: &[(Name, Value)], others: &[(Name, Value)]) -> Ordering
+    ensures { result ≡ slice_cmp field_cmp fields.now others.now }
 {
-    for ((name, value), (other_name, other)) in a.iter().zip(b) {
+    for ((name, value), (other_name, other)) in fields.iter().zip(others) {
         let order = compare_fields(name, value, other_name, other);
         if order.is_ne() {
             return order;
         }
     }
-    a.len().cmp(&b.len())
+    fields.len().cmp(&others.len())
 }
 
 /// Value by value; a proper prefix comes first.
 #[cycle(compare)]
-fn compare_lists(a: &[Value], b: &[Value]) -> Ordering
-    ensures { result ≡ slice_cmp value_cmp a.now b.now }
+fn compare_lists(values: &[Value], others: &[Value]) -> Ordering
+    ensures { result ≡ slice_cmp value_cmp values.now others.now }
 {
-    for (value, other) in a.iter().zip(b) {
+    for (value, other) in values.iter().zip(others) {
         let order = compare(value, other);
         if order.is_ne() {
             return order;
         }
     }
-    a.len().cmp(&b.len())
+    values.len().cmp(&others.len())
 }
