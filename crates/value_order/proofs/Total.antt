@@ -1,5 +1,5 @@
--- The order of values is total. It is shown of the order that goes a number of levels deep, by induction on the number,
--- and two values are compared at some level as they are at all.
+-- The order of values is total. This is shown of the order that goes a number of levels deep, by induction on the number.
+-- A number as large as the size of a value is deep enough for it.
 use Rattle.std.proofs.Common.{◌≡◌, ℕ, zero, suc, ◌+◌, ◌≤◌, List, [], ◌∷◌, map, refl, ap, ◌∙◌, sym, arith}
 use Rattle.std.specs.declared.cmp.Ordering.{Ordering}
 use Rattle.std.specs.declared.cmp.Ordering.TheVariants.{Equal}
@@ -36,7 +36,7 @@ unfolding cmp_at
 cmp_at-total zero = record { antisymm = λ a b. refl; trans = λ a b c h k. cc; congr = λ a b c h. refl }
 cmp_at-total (suc n) = on_total out-Value (level_total (part_total (cmp_at-total n)))
 
--- how many values stand in a value
+-- the size of a value: it, and the sizes of its parts
 total : List (List ℕ × ℕ) → ℕ
 total [] = 0
 total (x ∷ xs) = x.1 + total xs

@@ -12,7 +12,7 @@ use Rattle.bson_core.specs.declared.value.Value.TheFolds.{fold_out-Value}
 use Rattle.bson_core.specs.Order.{bracket, bracket_of, number_of, bytes_of, parts_of, Place, parts_cmp, place_step, place, value_cmp}
 use Rattle.value_order.specs.Parts.{field_cmp}
 
-pub then_assoc : (a b c : Ordering) → ordering_then (ordering_then a b) c ≡ ordering_then a (ordering_then b c)
+then_assoc : (a b c : Ordering) → ordering_then (ordering_then a b) c ≡ ordering_then a (ordering_then b c)
 then_assoc Less b c = refl
 then_assoc Equal b c = refl
 then_assoc Greater b c = refl
@@ -22,25 +22,20 @@ then_again Less b = refl
 then_again Equal b = refl
 then_again Greater b = refl
 
--- one level, where `below` compares the parts
+-- a field of a document; a value of a list, which has no name
 abbrev pub Part : Type 0
 Part = List ℕ × Value
 
+abbrev pub unnamed : Value → Part
+unnamed value = ([], value)
+
+-- one level, where `below` compares the parts
 abbrev pub level : (Part → Part → Ordering) → Value-F Value → Value-F Value → Ordering
 level below x y = ordering_then (nat_cmp (bracket_of x) (bracket_of y)) (ordering_then (int_cmp (number_of x) (number_of y)) (ordering_then (slice_cmp nat_cmp (bytes_of x) (bytes_of y)) (slice_cmp below (parts_of x) (parts_of y))))
 
 bracket_kept : (x : Value-F Value) → bracket_of (map-Value Value Place place x) ≡ bracket_of x
 bracket_kept of.Null = refl
-bracket_kept (of.Int n) = refl
-bracket_kept (of.Long n) = refl
-bracket_kept (of.Text t) = refl
-bracket_kept (of.Doc fields) = refl
-bracket_kept (of.List values) = refl
-bracket_kept (of.Bin b) = refl
-bracket_kept (of.Oid id) = refl
-bracket_kept (of.Bool b) = refl
-bracket_kept (of.Date n) = refl
-bracket_kept (of.Stamp n) = refl
+bracket_kept x = refl
 
 -- the place of a value has its bracket
 place_bracket : (a : Value) → (place a).0 ≡ bracket a
@@ -57,10 +52,6 @@ fields_are [] [] = refl
 fields_are [] (y ∷ ys) = refl
 fields_are (x ∷ xs) [] = refl
 fields_are (x ∷ xs) (y ∷ ys) = rw (place_bracket x.1, fields_are xs ys) (regroup (nat_cmp (bracket x.1) (bracket y.1)) (slice_cmp nat_cmp x.0 y.0) (value_cmp x.1 y.1) (slice_cmp field_cmp xs ys))
-
--- the parts of a list, which have no names
-abbrev pub unnamed : Value → Part
-unnamed value = ([], value)
 
 values_are : (xs : List Value) (ys : List Part) → parts_cmp (map (λ (p : Place). ([], p)) (map place xs)) ys ≡ slice_cmp field_cmp (map unnamed xs) ys
 unfolding value_cmp
