@@ -56,7 +56,7 @@ nothing_left n = omega arith
 drop_at_next : (xs : List ℕ) (y : ℕ) (ys : List ℕ) → drop (length xs + 1) (xs ++ y ∷ ys) ≡ ys
 drop_at_next xs y ys = ap (λ (l : List ℕ). drop (length xs + 1) l) (sym (append_assoc xs (y ∷ []) ys)) ∙ drop_at (xs ++ y ∷ []) ys (length xs + 1) (omega (arith, length-append xs (y ∷ [])))
 
-name_again : (end : ℕ) (name rest : List ℕ) → IsName name → name_at end (name ++ 0 ∷ rest) ≡ Ok (name, rest)
+pub name_again : (end : ℕ) (name rest : List ℕ) → IsName name → name_at end (name ++ 0 ∷ rest) ≡ Ok (name, rest)
 unfolding name_at
 name_again end name rest h =
     let whole = name ++ 0 ∷ rest in

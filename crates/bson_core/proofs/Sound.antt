@@ -36,10 +36,10 @@ pub record IsInput (bytes : List ℕ) : Type 0 where
   pub fits : (i : ℕ) → get_or bytes i 0 < 256
   pub short : length bytes < 2 ^ 31
 
-input-drop : (n : ℕ) (bytes : List ℕ) → IsInput bytes → IsInput (drop n bytes)
+pub input-drop : (n : ℕ) (bytes : List ℕ) → IsInput bytes → IsInput (drop n bytes)
 input-drop n bytes h = record { fits = λ i. rw get_or-drop (h.fits (n + i)); short = omega (arith, length-drop n bytes, h.short) }
 
-input-take : (n : ℕ) (bytes : List ℕ) → IsInput bytes → IsInput (take n bytes)
+pub input-take : (n : ℕ) (bytes : List ℕ) → IsInput bytes → IsInput (take n bytes)
 input-take n bytes h = record {
   fits = λ i. elim (cases_lt i n) [
     | inl lt ↦ rw (get_or-take n bytes i 0 lt) (h.fits i)
@@ -79,10 +79,10 @@ enough false o x e = (refl, some_is o x e)
 -- Numbers.
 
 -- a number of four bytes, and the bytes behind it, are all of the bytes
-abbrev Is32 : List ℕ → ℕ × List ℕ → Type 0
+abbrev pub Is32 : List ℕ → ℕ × List ℕ → Type 0
 Is32 bytes x = (bytes ≡ to_le_bytes w32 x.0 ++ x.1) × IsInput x.1 × (x.0 < 2 ^ 32) × (length x.1 + 4 ≡ length bytes)
 
-number32 : (bytes : List ℕ) (x : ℕ × List ℕ) → IsInput bytes → number_at w32 bytes ≡ Some x → Is32 bytes x
+pub number32 : (bytes : List ℕ) (x : ℕ × List ℕ) → IsInput bytes → number_at w32 bytes ≡ Some x → Is32 bytes x
 unfolding number_at
 number32 bytes x h e =
     let made : ℕ × List ℕ = (from_le_bytes w32 (take 4 bytes), drop 4 bytes) in
@@ -127,7 +127,7 @@ cut_ok end true n bytes x e =
     (refl, g.0, ok_is (take n bytes, drop (n + 1) bytes) x g.1)
 cut_ok end false n bytes x e = absurd cc
 
-name_found : (end : ℕ) (bytes : List ℕ) (x : List ℕ × List ℕ) → IsInput bytes → name_at end bytes ≡ Ok x → (bytes ≡ x.0 ++ 0 ∷ x.1) × IsName x.0 × IsInput x.1
+pub name_found : (end : ℕ) (bytes : List ℕ) (x : List ℕ × List ℕ) → IsInput bytes → name_at end bytes ≡ Ok x → (bytes ≡ x.0 ++ 0 ∷ x.1) × IsName x.0 × IsInput x.1
 unfolding name_at
 name_found end bytes x h e =
     let n = position_or_len (λ b. eqb b 0) bytes in

@@ -17,7 +17,7 @@ pub use laws::{
     documents_are_told_apart, grammar_has_no_fault, reading_undoes_writing,
     spelling_is_in_the_grammar,
 };
-pub use reading::{decode, front_u32};
+pub use reading::{decode, front_name, front_u32};
 pub use sizes::size;
 pub use text::{Bytes, Name, Text};
 pub use value::{Bin, Doc, List, Value, copy_doc, copy_list};

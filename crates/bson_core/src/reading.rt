@@ -103,9 +103,10 @@ fn text_in(bytes: &[u8]) -> Option<&str>
     }
 }
 
-/// A name and the 00 behind it.
+/// The name at the front of the bytes, and what stands behind the 00 that ends it. It is `Short` where there is no 00, and
+/// `Text` where it is no UTF-8; its place counts so that the bytes end at `last_at`.
 #[tactic(auto, unfolding(crate::specs::Reading::name_at))]
-fn read_name(alloc: Global, last_at: u64, bytes: &[u8]) -> Result<(Name, &[u8]), BsonErr>
+pub fn front_name(alloc: Global, last_at: u64, bytes: &[u8]) -> Result<(Name, &[u8]), BsonErr>
     ensures { Gives (λ x. (x.0, x.1.now)) result (name_at last_at bytes.now) }
 {
     let Some(len) = first_zero(bytes) else {
@@ -366,7 +367,7 @@ fn read_element(
         return Err(BsonErr::Length { at: start });
     }
     let kind = read_kind(last_at, *byte, bytes)?;
-    let (name, after) = read_name(alloc, last_at, after)?;
+    let (name, after) = front_name(alloc, last_at, after)?;
     let (value, after) = read_value(alloc, levels, kind, last_at, after)?;
     Ok(Some(((name, value), after)))
 }

@@ -1,5 +1,5 @@
-//! Tests of the crates that read and write bytes, and of the order of values: outside_core, bson_core, value_order,
-//! op_msg. They stand in a crate of their own, since a crate with tests is proved twice.
+//! Tests of the crates that read and write bytes and texts, and of the order of values: outside_core, bson_core,
+//! bson_text, value_order, op_msg. They stand in a crate of their own, since a crate with tests is proved twice.
 #![tactic(auto)]
 
 #[cfg(test)]

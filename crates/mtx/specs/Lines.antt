@@ -1,5 +1,5 @@
 -- Lines of a schedule, and what they ask.
-use Rattle.std.specs.Prelude.{◌≡◌, ℕ, ◌≤◌, ◌<◌, ◌^◌, ◌==◌, not, true, List, [], ◌∷◌, ◌++◌, length, if◌then◌else◌, Ok, codes, decimal}
+use Rattle.std.specs.Prelude.{◌≡◌, ℕ, ◌≤◌, ◌<◌, ◌^◌, ◌==◌, ◌&&◌, Bool, IsTrue, not, true, take, drop, List, [], ◌∷◌, ◌++◌, length, if◌then◌else◌, Ok, codes, decimal}
 use Rattle.std.specs.List.{list_all, slice_split}
 use Rattle.hex.specs.Hex.{decode_of}
 use Rattle.op_msg.specs.declared.frame.Frame.{Frame}
@@ -32,9 +32,14 @@ pub record Asked : Type 0 where
   pub connection : ℕ
   pub request : Frame
 
+-- a message as it is served so far: no flag is set, the flags being the bytes 16 to 19, and the body is the one section
+abbrev pub is_plain : List ℕ → Frame → Bool
+is_plain bytes request = list_all (λ b. b == 0) (take 4 (drop 16 bytes)) && length request.seqs == 0
+
 -- the line brings this message on this connection; no longer line is played
 pub record Asks (line : List ℕ) (a : Asked) : Type 0 where
   pub bytes : List ℕ
   pub form : IsClientLine line a.connection bytes
   pub message : IsMessage bytes a.request
+  pub plain : IsTrue (is_plain bytes a.request)
   pub short : length line ≤ 100000000

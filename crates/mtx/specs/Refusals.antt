@@ -5,6 +5,5 @@ use Rattle.mtx.specs.declared.line.LineErr.{LineErr}
 use Rattle.mtx.specs.declared.line.LineErr.TheVariants.{Form, Memory}
 
 abbrev pub from_message : FrameErr → LineErr
-from_message message.TooLarge = Form
 from_message message.Memory = Memory
-from_message message.Unread = Form
+from_message fault = Form

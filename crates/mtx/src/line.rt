@@ -42,7 +42,14 @@ impl From<FrameErr> for LineErr {
     fn from(error: FrameErr) -> LineErr {
         match error {
             FrameErr::Memory => LineErr::Memory,
-            FrameErr::TooLarge | FrameErr::Unread => LineErr::Form,
+            FrameErr::Length
+            | FrameErr::OpCode
+            | FrameErr::Flags { .. }
+            | FrameErr::Section
+            | FrameErr::NoBody
+            | FrameErr::TwoBodies
+            | FrameErr::Bson(_)
+            | FrameErr::TooLarge => LineErr::Form,
         }
     }
 }

@@ -4,7 +4,7 @@ ghost use Rattle.outcomes.specs.Told.{Told};
 ghost use Rattle.op_msg.specs.Message.{message};
 ghost use Rattle.outside_core.specs.Bytes.{Went, WentInPart};
 ghost use Rattle.mtx.specs.Words.{word_at_fault};
-ghost use Rattle.mtx.specs.Lines.{lines_of, Asks};
+ghost use Rattle.mtx.specs.Lines.{lines_of, is_plain, Asks};
 ghost use Rattle.mtx.specs.Standing.{state_of, StandsAt, HasInserted};
 ghost use Rattle.mtx.specs.Serving.{reply_to, served};
 ghost use Rattle.mtx.specs.Text.{reply_line, dump};
@@ -77,6 +77,13 @@ struct Ask {
     request: Frame,
 }
 
+/// Whether a message has no flags and no sequences, as those have that are served so far.
+fn is_plain(bytes: &[u8], request: &Frame) -> bool
+    ensures { result ≡ is_plain bytes.now request.now }
+{
+    bytes.iter().skip(16).take(4).all(|b| *b == 0) && request.seqs.is_empty()
+}
+
 /// Reads what a line asks.
 fn read_ask(alloc: Global, line: &[u8]) -> Result<Ask, LineErr>
     ensures ok { IfOk result (λ a. Asks line.now (record { connection = a.connection; request = a.request })) }
@@ -87,6 +94,9 @@ fn read_ask(alloc: Global, line: &[u8]) -> Result<Ask, LineErr>
     }
     let ClientLine { connection, bytes } = read_line(alloc, line)?;
     let request = read_frame(alloc, bytes.as_slice())?;
+    if !is_plain(bytes.as_slice(), &request) {
+        return Err(LineErr::Form);
+    }
     Ok(Ask {
         connection,
         request,

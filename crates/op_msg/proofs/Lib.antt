@@ -1,3 +1,5 @@
-pub mod Numbers
-pub mod Front
+pub mod Found
+pub mod Messages
 pub mod Read
+pub mod Steps
+pub mod Turns

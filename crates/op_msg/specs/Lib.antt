@@ -1,3 +1,4 @@
 pub mod Words
 pub mod Message
 pub mod Errors
+pub mod Reading

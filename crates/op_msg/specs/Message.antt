@@ -1,38 +1,83 @@
 -- Messages, after the OP_MSG page of the MongoDB wire protocol: a header of four int32 (the length of the whole
--- message, requestID, responseTo, opCode), flagBits, and sections. A section of kind 0 is one document, the body.
-use Rattle.std.specs.Prelude.{◌≡◌, ℕ, ℤ, ◌+◌, ◌≤◌, ◌⊎◌, Bool, true, false, List, [], ◌∷◌, ◌++◌, length, Some, None, Result, IsTrue, FitsSigned, codes}
+-- message, requestID, responseTo, opCode), flagBits, sections, and where the lowest flag is set a checksum of four
+-- bytes. A section of kind 0 is one document, the body. One of kind 1 is a sequence: a size that counts itself, a name
+-- ended by 00, and documents.
+use Rattle.std.specs.Prelude.{◌≡◌, ℕ, ℤ, ◌+◌, ◌^◌, ◌<◌, ◌≤◌, ◌/◌, ◌%◌, ◌⊎◌, ◌==◌, Bool, false, List, [], ◌∷◌, ◌++◌, length, Some, None, IsTrue, FitsSigned, codes, if◌then◌else◌}
+use Rattle.std.proofs.Common.{inl, inr}
+use Rattle.std.specs.List.{flat_map}
 use Rattle.std.specs.Int.{w32, cast_unsigned}
 use Rattle.std.specs.Str.{bytes_eq}
-use Rattle.outcomes.specs.Outcome as outcome
 use Rattle.bson_core.specs.declared.value.Value.{Value}
 use Rattle.bson_core.specs.declared.value.Value.TheOpen as of
 use Rattle.bson_core.specs.declared.value.Value.TheOpen.{Value-F}
 use Rattle.bson_core.specs.declared.value.Value.TheViews.{out-Value}
+use Rattle.bson_core.specs.Names.{IsName}
 use Rattle.bson_core.specs.Fields.{Document, value_of}
 use Rattle.bson_core.specs.Grammar.{Reads}
 use Rattle.bson_core.specs.Spelling.{spelling}
 use Rattle.op_msg.specs.Words.{word}
 use Rattle.op_msg.specs.declared.frame.Frame.{Frame}
-use Rattle.op_msg.specs.declared.frame.FrameErr.{FrameErr}
-use Rattle.op_msg.specs.declared.frame.FrameErr.TheVariants.{TooLarge, Memory, Unread}
 
--- what stands in front of the body: the header with opCode 2013, no flags, and the section's kind 0
-unfoldable pub front : ℕ → ℤ → ℤ → List ℕ
-front len request_id response_to = word len ++ word (cast_unsigned w32 request_id) ++ word (cast_unsigned w32 response_to) ++ word 2013 ++ word 0 ++ 0 ∷ []
+-- the header, with opCode 2013, and flagBits
+unfoldable pub front : ℕ → ℤ → ℤ → ℕ → List ℕ
+front len request_id response_to flags = word len ++ word (cast_unsigned w32 request_id) ++ word (cast_unsigned w32 response_to) ++ word 2013 ++ word flags
 
--- a message's five numbers, the kind of its first section, and the bytes behind
-abbrev pub parts : ℕ → ℕ → ℕ → ℕ → ℕ → ℕ → List ℕ → List ℕ
-parts len request_id response_to op_code flags kind body = word len ++ (word request_id ++ (word response_to ++ (word op_code ++ (word flags ++ kind ∷ body))))
+-- a name and documents
+abbrev pub Sequence : Type 0
+Sequence = List ℕ × List Document
 
--- the one spelling of a message without flags and sequences
+-- a section of kind 1, of a name and of the bytes of its documents
+unfoldable pub sequence_section : List ℕ → List ℕ → List ℕ
+sequence_section name documents = 1 ∷ word (4 + length name + 1 + length documents) ++ name ++ 0 ∷ documents
+
+-- What is written: the body first, then the sequences, and no checksum.
+
+abbrev pub sequences : List Sequence → List ℕ
+sequences seqs = flat_map (λ seq. sequence_section seq.0 (flat_map spelling seq.1)) seqs
+
+abbrev pub sections : Frame → List ℕ
+sections f = 0 ∷ spelling f.body ++ sequences f.seqs
+
+-- moreToCome is the flag of value 2
+abbrev pub flags_of : Bool → ℕ
+flags_of more = if more then 2 else 0
+
+-- the one spelling of a message
 abbrev pub message : Frame → List ℕ
-message f = front (length (spelling f.body) + 21) f.request_id f.response_to ++ spelling f.body
+message f = front (20 + length (sections f)) f.request_id f.response_to (flags_of f.more) ++ sections f
 
--- a message of OP_MSG that wants its reply, of one section
-pub record IsPlain (f : Frame) : Type 0 where
-  pub modern : f.legacy ≡ false
-  pub last : f.more ≡ false
-  pub alone : f.seqs ≡ []
+-- What is read.
+
+-- whether the flag of value 2 ^ bit is set
+abbrev pub has_flag : ℕ → ℕ → Bool
+has_flag bit flags = flags / 2 ^ bit % 2 == 1
+
+-- documents one after the other
+abbrev pub ReadsDocuments : List Document → List ℕ → Type 0
+ReadsDocuments [] bytes = bytes ≡ []
+ReadsDocuments (doc ∷ docs) bytes = (first : List ℕ) × (rest : List ℕ) × Reads 100 doc first × (bytes ≡ first ++ rest) × ReadsDocuments docs rest
+
+-- the sections behind one another: those of kind 0 have the documents `bodies`, those of kind 1 are the sequences
+abbrev pub Section : Type 0
+Section = Document ⊎ Sequence
+
+abbrev pub ReadsSection : Section → List ℕ → Type 0
+ReadsSection (inl doc) bytes = (b : List ℕ) × Reads 100 doc b × (bytes ≡ 0 ∷ b)
+ReadsSection (inr seq) bytes = (documents : List ℕ) × IsName seq.0 × ReadsDocuments seq.1 documents × (bytes ≡ sequence_section seq.0 documents)
+
+abbrev pub ReadsSections : List Section → List ℕ → Type 0
+ReadsSections [] bytes = bytes ≡ []
+ReadsSections (section ∷ more) bytes = (first : List ℕ) × (rest : List ℕ) × ReadsSection section first × (bytes ≡ first ++ rest) × ReadsSections more rest
+
+abbrev pub bodies : List Section → List Document
+bodies [] = []
+bodies (inl doc ∷ more) = doc ∷ bodies more
+bodies (inr seq ∷ more) = bodies more
+
+abbrev pub sequences_of : List Section → List Sequence
+sequences_of [] = []
+sequences_of (inl doc ∷ more) = sequences_of more
+sequences_of (inr seq ∷ more) = seq ∷ sequences_of more
 
 -- the value is this text
 abbrev pub is_text : List ℕ → Value-F Value → Bool
@@ -48,22 +93,26 @@ pub record IsWithinLimits (len : ℕ) (body : Document) : Type 0 where
   pub most : len ≤ 400000000
   pub client : (len ≤ 48000000) ⊎ IsTrue (is_internal body)
 
+-- Flags 2 to 15 must be understood, and none of them is. Flag 0 says that a checksum follows, flag 1 is moreToCome; the
+-- others may be passed over.
+pub record AreFlags (flags : ℕ) (more : Bool) (checksum : List ℕ) : Type 0 where
+  pub fits : flags < 2 ^ 32
+  pub known : (bit : ℕ) → 2 ≤ bit → bit < 16 → has_flag bit flags ≡ false
+  pub more_to_come : has_flag 1 flags ≡ more
+  pub sum : length checksum ≡ (if has_flag 0 flags then 4 else 0)
+
 -- the bytes, all of them, are this message
 pub record IsMessage (bytes : List ℕ) (f : Frame) : Type 0 where
-  pub body : List ℕ
-  pub reads : Reads 100 f.body body
-  pub spelled : bytes ≡ front (length body + 21) f.request_id f.response_to ++ body
+  pub flags : ℕ
+  pub parts : List Section
+  pub inside : List ℕ
+  pub checksum : List ℕ
+  pub spelled : bytes ≡ front (length bytes) f.request_id f.response_to flags ++ inside ++ checksum
   pub request_id : FitsSigned w32 f.request_id
   pub response_to : FitsSigned w32 f.response_to
+  pub are_flags : AreFlags flags f.more checksum
+  pub reads : ReadsSections parts inside
+  pub body : bodies parts ≡ f.body ∷ []
+  pub seqs : sequences_of parts ≡ f.seqs
   pub limits : IsWithinLimits (length bytes) f.body
-  pub plain : IsPlain f
-
--- want of memory, which no definition answers
-abbrev pub is_memory : FrameErr → Bool
-is_memory Memory = true
-is_memory TooLarge = false
-is_memory Unread = false
-
--- what a function returned is this, unless memory ran out
-abbrev pub Gives : Result Frame FrameErr → Result Frame FrameErr → Type 0
-Gives result defined = outcome.Gives is_memory (λ f. f) result defined
+  pub modern : f.legacy ≡ false

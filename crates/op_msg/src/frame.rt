@@ -1,6 +1,6 @@
 ghost use Rattle.std.specs.Prelude.{◌≡◌};
 ghost use Rattle.op_msg.specs.declared.frame.FrameErr.TheVariants.{Memory};
-ghost use Rattle.op_msg.specs.Errors.{from_body};
+ghost use Rattle.op_msg.specs.Errors.{from_document};
 
 use bson_core::{BsonErr, Doc, Name};
 use sqlite_items::Items;
@@ -24,15 +24,29 @@ pub struct Frame {
     pub seqs: Seqs,
 }
 
-/// Why bytes were not read as a message, or a message not written.
+/// Why bytes are no message, or why a message was not written.
 #[derive(Clone, Copy, Debug, PartialEq, Eq)]
 pub enum FrameErr {
-    /// The message has more than 400,000,000 bytes.
+    /// There are fewer bytes than a header has, or the length in the header isn't that of the bytes.
+    Length,
+    /// The operation is none that is read.
+    OpCode,
+    /// That flag is set, the least of the flags 2 to 15 that is: they say what a reader must know, and none of them
+    /// is known.
+    Flags { bit: u8 },
+    /// The flags, the checksum or a section's size don't fit into the message; or a section is of another kind than 0
+    /// and 1, or its name has no end or is no UTF-8.
+    Section,
+    /// There is no section of kind 0.
+    NoBody,
+    /// There are two sections of kind 0.
+    TwoBodies,
+    /// A section's document is none. A place counts from the first byte of that document.
+    Bson(BsonErr),
+    /// The message has more than 400,000,000 bytes, or more than 48,000,000 and isn't one between nodes.
     TooLarge,
     /// There was no memory.
     Memory,
-    /// The bytes are no message of the form that is read.
-    Unread,
 }
 
 impl From<AllocError> for FrameErr {
@@ -52,7 +66,7 @@ impl<T: Drop> From<AllocFailed<T>> for FrameErr {
 }
 
 impl From<BsonErr> for FrameErr {
-    ghost from_gives = { λ error e. e ≡ from_body error };
+    ghost from_gives = { λ error e. e ≡ from_document error };
 
     fn from(error: BsonErr) -> FrameErr {
         match error {
@@ -63,7 +77,7 @@ impl From<BsonErr> for FrameErr {
             | BsonErr::Text { .. }
             | BsonErr::Bool { .. }
             | BsonErr::Deep { .. }
-            | BsonErr::TooLarge => FrameErr::Unread,
+            | BsonErr::TooLarge => FrameErr::Bson(error),
         }
     }
 }

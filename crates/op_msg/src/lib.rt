@@ -3,6 +3,7 @@
 #![tactic(auto)]
 
 mod frame;
+mod header;
 mod reading;
 mod words;
 mod writing;

@@ -1,37 +1,148 @@
-ghost use Rattle.std.specs.Prelude.{◌≡◌, ◌++◌, ◌+◌, ◌<◌, ◌⊎◌, length, OnOk, OnErr, IfErr};
-ghost use Rattle.op_msg.specs.Message.{front, message, IsPlain};
+ghost use Rattle.std.specs.Prelude.{◌≡◌, ◌++◌, ◌+◌, ◌-◌, ◌^◌, ◌<◌, ◌≤◌, ◌⊎◌, false, length, min, OnOk, OnErr, IfErr};
+ghost use Rattle.std.specs.List.{flat_map};
+ghost use Rattle.bson_core.specs.Spelling.{spelling};
+ghost use Rattle.op_msg.specs.Message.{front, sequence_section, sequences, sections, flags_of, message};
 
 use crate::frame::{Frame, FrameErr};
 use crate::words::put_word;
-use bson_core::{encode, size};
+use bson_core::{Doc, Name, encode, size};
+use sqlite_items::Items;
 use std::alloc::Global;
 
 /// No message is longer.
 const MOST: u64 = 400_000_000;
 
-/// The bytes in front of the body: four numbers, the flags, and the section's kind.
-const FRONT: u32 = 21;
+/// The bytes of the header and of the flags.
+const FRONT: u64 = 20;
+
+/// The bytes of a sequence beside its name and its documents: the kind, the size, and the 00 behind the name.
+const SEQUENCE: u64 = 6;
 
 const OP_MSG: u32 = 2013;
 
-/// Appends what stands in front of the body, where the message has that length.
-fn put_front(out: &mut Vec<u8>, len: u32, request_id: i32, response_to: i32) -> Result<(), FrameErr>
-    ensures ok { OnOk result (out.new.items ≡ out.old.items ++ front len request_id response_to) }
+/// The flag moreToCome.
+const MORE: u32 = 2;
+
+fn documents_size(docs: &[Doc]) -> u64
+    ensures { result ≡ min (length (flat_map spelling docs.now)) (2 ^ 64 - 1) }
+{
+    let mut sum = 0u64;
+    for doc in docs {
+        sum = sum.saturating_add(size(doc));
+    }
+    sum
+}
+
+fn sequence_size(name: &Name, docs: &[Doc]) -> u64
+    ensures { result ≡ min (length (sequence_section name.now (flat_map spelling docs.now))) (2 ^ 64 - 1) }
+{
+    let name = name.as_str().len() as u64;
+    documents_size(docs)
+        .saturating_add(name)
+        .saturating_add(SEQUENCE)
+}
+
+fn sequences_size(seqs: &[(Name, Items<Doc>)]) -> u64
+    ensures { result ≡ min (length (sequences seqs.now)) (2 ^ 64 - 1) }
+{
+    let mut sum = 0u64;
+    for (name, docs) in seqs {
+        sum = sum.saturating_add(sequence_size(name, docs.as_slice()));
+    }
+    sum
+}
+
+/// The bytes of a message.
+fn message_size(frame: &Frame) -> u64
+    ensures { result ≡ min (length (message frame.now)) (2 ^ 64 - 1) }
+{
+    let body = size(&frame.body).saturating_add(1);
+    let sequences = sequences_size(frame.seqs.as_slice());
+    body.saturating_add(sequences).saturating_add(FRONT)
+}
+
+/// Appends the header of a message of that length, and its flags.
+fn put_front(
+    out: &mut Vec<u8>,
+    len: u32,
+    request_id: i32,
+    response_to: i32,
+    flags: u32,
+) -> Result<(), FrameErr>
+    ensures ok { OnOk result (out.new.items ≡ out.old.items ++ front len request_id response_to flags) }
     ensures refused { IfErr result (λ e. e ≡ FrameErr.Memory) }
 {
     put_word(out, len)?;
     put_word(out, request_id.cast_unsigned())?;
     put_word(out, response_to.cast_unsigned())?;
     put_word(out, OP_MSG)?;
-    put_word(out, 0)?;
-    out.push(0)?;
+    put_word(out, flags)
+}
+
+fn put_document(alloc: Global, out: &mut Vec<u8>, doc: &Doc) -> Result<(), FrameErr>
+    requires { length (spelling doc.now) ≤ MOST }
+    ensures ok { OnOk result (out.new.items ≡ out.old.items ++ spelling doc.now) }
+    ensures refused { IfErr result (λ e. e ≡ FrameErr.Memory) }
+{
+    encode(alloc, doc, out)?;
     Ok(())
 }
 
-/// Appends the message's bytes, in its one spelling.
-#[tactic(auto, using(crate::proofs::Front::length_front))]
+fn put_documents(alloc: Global, out: &mut Vec<u8>, docs: &[Doc]) -> Result<(), FrameErr>
+    requires { length (flat_map spelling docs.now) ≤ MOST }
+    ensures ok { OnOk result (out.new.items ≡ out.old.items ++ flat_map spelling docs.now) }
+    ensures refused { IfErr result (λ e. e ≡ FrameErr.Memory) }
+{
+    for doc in docs {
+        put_document(alloc, out, doc)?;
+    }
+    Ok(())
+}
+
+fn put_sequence(alloc: Global, out: &mut Vec<u8>, name: &Name, docs: &[Doc]) -> Result<(), FrameErr>
+    requires { length (sequence_section name.now (flat_map spelling docs.now)) ≤ MOST }
+    ensures ok { OnOk result (out.new.items ≡ out.old.items ++ sequence_section name.now (flat_map spelling docs.now)) }
+    ensures refused { IfErr result (λ e. e ≡ FrameErr.Memory) }
+{
+    let size = sequence_size(name, docs) as u32 - 1;
+    out.push(1)?;
+    put_word(out, size)?;
+    out.extend_from_slice(name.as_str().as_bytes())?;
+    out.push(0)?;
+    put_documents(alloc, out, docs)
+}
+
+fn put_sequences(
+    alloc: Global,
+    out: &mut Vec<u8>,
+    seqs: &[(Name, Items<Doc>)],
+) -> Result<(), FrameErr>
+    requires { length (sequences seqs.now) ≤ MOST }
+    ensures ok { OnOk result (out.new.items ≡ out.old.items ++ sequences seqs.now) }
+    ensures refused { IfErr result (λ e. e ≡ FrameErr.Memory) }
+{
+    for (name, docs) in seqs {
+        put_sequence(alloc, out, name, docs.as_slice())?;
+    }
+    Ok(())
+}
+
+fn put_sections(alloc: Global, out: &mut Vec<u8>, frame: &Frame) -> Result<(), FrameErr>
+    requires { length (sections frame.now) ≤ MOST }
+    ensures ok { OnOk result (out.new.items ≡ out.old.items ++ sections frame.now) }
+    ensures refused { IfErr result (λ e. e ≡ FrameErr.Memory) }
+{
+    out.push(0)?;
+    put_document(alloc, out, &frame.body)?;
+    put_sequences(alloc, out, frame.seqs.as_slice())
+}
+
+/// Appends the message's bytes, in its one spelling: the body first, then the sequences, and no checksum. Of the flags
+/// only moreToCome may be set.
+///
+/// It goes through each document twice for its size and once for its bytes.
 pub fn write_frame(alloc: Global, frame: &Frame, out: &mut Vec<u8>) -> Result<(), FrameErr>
-    requires { IsPlain frame.now }
+    requires { frame.now.legacy ≡ false }
     ensures ok { OnOk result (out.new.items ≡ out.old.items ++ message frame.now) }
     // It is refused exactly where the message is longer than 400,000,000 bytes, or memory runs out.
     ensures too_large { result ≡ Err FrameErr.TooLarge → MOST < length (message frame.now) }
@@ -39,13 +150,20 @@ pub fn write_frame(alloc: Global, frame: &Frame, out: &mut Vec<u8>) -> Result<()
     ensures refused { OnErr result (out.new.items ≡ out.old.items) }
     ensures causes { IfErr result (λ e. (e ≡ FrameErr.TooLarge) ⊎ (e ≡ FrameErr.Memory)) }
 {
-    let len = size(&frame.body).saturating_add(u64::from(FRONT));
+    let len = message_size(frame);
     if len > MOST {
         return Err(FrameErr::TooLarge);
     }
+    let flags = if frame.more { MORE } else { 0 };
     let mut whole = Vec::new(alloc);
-    put_front(&mut whole, len as u32, frame.request_id, frame.response_to)?;
-    encode(alloc, &frame.body, &mut whole)?;
+    put_front(
+        &mut whole,
+        len as u32,
+        frame.request_id,
+        frame.response_to,
+        flags,
+    )?;
+    put_sections(alloc, &mut whole, frame)?;
     out.extend_from_slice(&whole)?;
     Ok(())
 }

@@ -4,7 +4,8 @@ use Rattle.hex.specs.Hex.{decode_of}
 use Rattle.op_msg.specs.declared.frame.Frame.{Frame}
 use Rattle.op_msg.specs.declared.frame.FrameErr.{FrameErr}
 use Rattle.op_msg.specs.declared.frame.FrameErr.TheVariants as message
-use Rattle.op_msg.specs.Message.{IsMessage, Gives}
+use Rattle.op_msg.specs.Message.{IsMessage}
+use Rattle.op_msg.specs.Errors.{Gives}
 use Rattle.mtx.specs.declared.line.LineErr.{LineErr}
 use Rattle.mtx.specs.declared.line.LineErr.TheVariants.{Form}
 use Rattle.mtx.specs.Lines.{IsClientLine}
@@ -20,10 +21,9 @@ one_reading line c d x y p q =
     cc
 
 -- bytes that are refused for their form are no message
-no_message : (error : FrameErr) (f : Frame) → from_message error ≡ Form → Gives (Err error) (Ok f) → ⊥
-no_message message.TooLarge f form given = cc
+no_message : (error : FrameErr) (f : Frame) → from_message error ≡ Form → Gives (λ (f : Frame). f) (Err error) (Ok f) → ⊥
 no_message message.Memory f form given = cc
-no_message message.Unread f form given = cc
+no_message fault f form given = cc
 
 -- the error that came through `?`
 named : {X : Type 0} (r : Result X LineErr) (x y : LineErr) → r ≡ Err x → x ≡ y → r ≡ Err Form → y ≡ Form
