@@ -6,11 +6,17 @@ use Rattle.bson_core.specs.declared.value.Value.TheOpen.{Value-F}
 use Rattle.bson_core.specs.declared.value.Value.TheViews.{out-Value}
 use Rattle.bson_core.specs.Fields.{Document, value_of}
 use Rattle.txn_types.specs.declared.id.Id.{Id}
-use Rattle.txn_types.specs.declared.id.Id.TheVariants.{Num}
+use Rattle.txn_types.specs.declared.id.Id.TheVariants as kinds
 
+-- a document, a list, null and a timestamp are no ids
 abbrev pub id_of_kind : Value-F Value → Option Id
-id_of_kind (of.Int n) = Some (Num n)
-id_of_kind (of.Long n) = Some (Num n)
+id_of_kind (of.Int n) = Some (kinds.Num n)
+id_of_kind (of.Long n) = Some (kinds.Num n)
+id_of_kind (of.Text t) = Some (kinds.Text t)
+id_of_kind (of.Bin b) = Some (kinds.Bin b)
+id_of_kind (of.Oid bytes) = Some (kinds.Oid bytes)
+id_of_kind (of.Bool b) = Some (kinds.Bool b)
+id_of_kind (of.Date n) = Some (kinds.Date n)
 id_of_kind other = None
 
 -- the id that a value is

@@ -1,53 +1,154 @@
-ghost use Rattle.std.specs.Prelude.{◌≡◌, ◌↔◌, None, Some, IfOk};
+ghost use Rattle.std.specs.Prelude.{◌≡◌, ◌↔◌, None, Some, IfOk, length};
 ghost use Rattle.txn_types.specs.Ids.{id_of, id_in};
-ghost use Rattle.txn_types.specs.Order.{id_cmp};
-ghost use Rattle.std.specs.Option.{option_and_then};
+ghost use Rattle.txn_types.specs.Order.{id_cmp, kind_of, number_of, length_of, subtype_of, content_of};
+ghost use Rattle.txn_types.specs.declared.id.IdErr.TheVariants.{Memory};
 
-use bson_core::{Doc, Value, get};
+use bson_core::{Bin, Doc, Text, Value, get};
 use std::alloc::{AllocError, Global};
 use std::cmp::Ordering;
 
-/// The value of a document's `_id`. An int32 and an int64 of one value are one id. So far an id is a number.
+/// The value of a document's `_id`: of the kinds of values, a number, a text, a binary, an object id, a truth value or
+/// a moment. An int32 and an int64 of one value are one id.
 #[derive(Debug, Drop)]
 pub enum Id {
     Num(i64),
+    Text(Text),
+    Bin(Bin),
+    /// An object id of 12 bytes.
+    Oid([u8; 12]),
+    Bool(bool),
+    /// Milliseconds since 1970 began, in UTC.
+    Date(i64),
 }
 
 /// Why a value is no id.
 #[derive(Clone, Copy, Debug, PartialEq, Eq)]
 pub enum IdErr {
-    /// Its kind is none that an id may have.
+    /// Its kind is none that an id may have: a document, a list, null or a timestamp.
     BadId,
     /// There was no memory.
     Memory,
 }
 
+impl From<AllocError> for IdErr {
+    ghost from_gives = { λ _ e. e ≡ Memory };
+
+    fn from(_e: AllocError) -> IdErr {
+        IdErr::Memory
+    }
+}
+
 impl Id {
     /// The id that the value is.
-    pub fn of(_alloc: Global, value: &Value) -> Result<Id, IdErr>
+    pub fn of(alloc: Global, value: &Value) -> Result<Id, IdErr>
         ensures ok { IfOk result (λ i. id_of value.now ≡ Some i) }
         ensures bad { (result ≡ Err IdErr.BadId) ↔ (id_of value.now ≡ None) }
     {
         match value {
             Value::Int(number) => Ok(Id::Num(i64::from(*number))),
             Value::Long(number) => Ok(Id::Num(*number)),
+            Value::Text(text) => Ok(Id::Text(text.copy(alloc)?)),
+            Value::Bin(bin) => Ok(Id::Bin(bin.copy(alloc)?)),
+            Value::Oid(bytes) => Ok(Id::Oid(*bytes)),
+            Value::Bool(flag) => Ok(Id::Bool(*flag)),
+            Value::Date(moment) => Ok(Id::Date(*moment)),
             _ => Err(IdErr::BadId),
         }
     }
 
-    pub fn compare(&self, other: &Id) -> Ordering
-        ensures { result ≡ id_cmp self.now other.now }
+    /// The id of the document, where it has an `_id` that is one.
+    pub fn in_doc(alloc: Global, doc: &Doc) -> Result<Option<Id>, AllocError>
+        ensures { IfOk result (λ o. o ≡ id_in doc.now) }
     {
-        match (self, other) {
-            (Id::Num(a), Id::Num(b)) => a.cmp(b),
+        let Some(value) = get(doc, "_id") else {
+            return Ok(None);
+        };
+        match Id::of(alloc, value) {
+            Ok(id) => Ok(Some(id)),
+            Err(IdErr::BadId) => Ok(None),
+            Err(IdErr::Memory) => Err(AllocError),
         }
     }
 
-    pub fn copy(&self, _alloc: Global) -> Result<Id, AllocError>
+    /// The bracket of its kind in the order of values.
+    fn kind(&self) -> u8
+        ensures { result ≡ kind_of self.now }
+    {
+        match self {
+            Id::Num(_) => 2,
+            Id::Text(_) => 3,
+            Id::Bin(_) => 6,
+            Id::Oid(_) => 7,
+            Id::Bool(_) => 8,
+            Id::Date(_) => 9,
+        }
+    }
+
+    /// What is compared first within a kind: the number, the moment, false before true.
+    fn number(&self) -> i64
+        ensures { result ≡ number_of self.now }
+    {
+        match self {
+            Id::Num(number) | Id::Date(number) => *number,
+            Id::Bool(flag) => i64::from(*flag),
+            Id::Text(_) | Id::Bin(_) | Id::Oid(_) => 0,
+        }
+    }
+
+    /// The number of bytes of a binary.
+    fn length(&self) -> usize
+        ensures { result ≡ length_of self.now }
+    {
+        match self {
+            Id::Bin(bin) => bin.bytes.as_slice().len(),
+            _ => 0,
+        }
+    }
+
+    /// The subtype of a binary.
+    fn subtype(&self) -> u8
+        ensures { result ≡ subtype_of self.now }
+    {
+        match self {
+            Id::Bin(bin) => bin.subtype,
+            _ => 0,
+        }
+    }
+
+    /// The bytes of a text, a binary or an object id.
+    fn content(&self) -> &[u8]
+        ensures { result.now ≡ content_of self.now }
+    {
+        match self {
+            Id::Text(text) => text.as_str().as_bytes(),
+            Id::Bin(bin) => bin.bytes.as_slice(),
+            Id::Oid(bytes) => bytes,
+            Id::Num(_) | Id::Bool(_) | Id::Date(_) => &[],
+        }
+    }
+
+    /// Where the id stands beside another. It takes no memory.
+    pub fn compare(&self, other: &Id) -> Ordering
+        ensures { result ≡ id_cmp self.now other.now }
+    {
+        self.kind()
+            .cmp(&other.kind())
+            .then_with(|| self.number().cmp(&other.number()))
+            .then_with(|| self.length().cmp(&other.length()))
+            .then_with(|| self.subtype().cmp(&other.subtype()))
+            .then_with(|| self.content().cmp(other.content()))
+    }
+
+    pub fn copy(&self, alloc: Global) -> Result<Id, AllocError>
         ensures { IfOk result (λ i. i ≡ self.now) }
     {
         match self {
             Id::Num(number) => Ok(Id::Num(*number)),
+            Id::Text(text) => Ok(Id::Text(text.copy(alloc)?)),
+            Id::Bin(bin) => Ok(Id::Bin(bin.copy(alloc)?)),
+            Id::Oid(bytes) => Ok(Id::Oid(*bytes)),
+            Id::Bool(flag) => Ok(Id::Bool(*flag)),
+            Id::Date(moment) => Ok(Id::Date(*moment)),
         }
     }
 }
