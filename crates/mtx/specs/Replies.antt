@@ -28,8 +28,10 @@ unfoldable pub refusal : ℤ → List ℕ → List ℕ → ℕ → Document
 refusal code name message time =
     (codes "ok", kinds.Int (pos 0)) ∷ (codes "errmsg", kinds.Text message) ∷ (codes "code", kinds.Int code) ∷ (codes "codeName", kinds.Text name) ∷ times time
 
+-- so far each id that is served is a number
 abbrev pub id_text : Id → List ℕ
 id_text (Num n) = signed_decimal n
+id_text other = []
 
 abbrev pub duplicate_key : Id → ℕ → Document
 duplicate_key id time = refusal (pos 11000) (codes "DuplicateKey") (codes "duplicate key {\"_id\": " ++ id_text id ++ codes "} at index 0") time

@@ -4,12 +4,12 @@ ghost use Rattle.bson_core.specs.declared.value.Value.TheViews.{out-Value};
 ghost use Rattle.bson_core.specs.Fields.{value_of};
 ghost use Rattle.bson_core.specs.Spelling.{spelling};
 ghost use Rattle.txn_types.specs.Ids.{id_in};
-ghost use Rattle.mtx.specs.Inserts.{text_in, list_in, doc_in, only, insert_of, insert_in};
+ghost use Rattle.mtx.specs.Inserts.{text_in, list_in, doc_in, only, number_only, insert_of, insert_in};
 
 use crate::look::command_in;
 use bson_core::{Doc, Value, copy_doc, get, size};
 use std::alloc::{AllocError, Global};
-use txn_types::{Id, IdErr, Ns, NsErr};
+use txn_types::{Id, Ns, NsErr};
 
 /// No stored document is longer, in bytes.
 const MOST_STORED: u64 = 16_777_216;
@@ -52,17 +52,17 @@ fn only_document(values: &[Value]) -> Option<&Doc>
     }
 }
 
-/// The id of the document.
-fn id_of(alloc: Global, doc: &Doc) -> Result<Option<Id>, AllocError>
-    ensures { IfOk result (λ o. o ≡ id_in doc.now) }
+/// The id of the document, where it is a number.
+fn number_id(alloc: Global, doc: &Doc) -> Result<Option<Id>, AllocError>
+    ensures id { IfOk result (λ o. o ≡ option_and_then number_only (id_in doc.now)) }
+    ensures kept { IfOk result (λ o. IfSome o (λ i. id_in doc.now ≡ Some i)) }
 {
-    let Some(value) = get(doc, "_id") else {
+    let Some(id) = Id::in_doc(alloc, doc)? else {
         return Ok(None);
     };
-    match Id::of(alloc, value) {
-        Ok(id) => Ok(Some(id)),
-        Err(IdErr::BadId) => Ok(None),
-        Err(IdErr::Memory) => Err(AllocError),
+    match id {
+        Id::Num(number) => Ok(Some(Id::Num(number))),
+        _ => Ok(None),
     }
 }
 
@@ -91,7 +91,7 @@ fn insert_of(alloc: Global, body: &Doc) -> Result<Option<Insert>, AllocError>
     let Some(doc) = only_document(documents) else {
         return Ok(None);
     };
-    let Some(id) = id_of(alloc, doc)? else {
+    let Some(id) = number_id(alloc, doc)? else {
         return Ok(None);
     };
     let ns = match Ns::of(alloc, database, collection) {

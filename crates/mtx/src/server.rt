@@ -23,12 +23,13 @@ pub struct Server {
     ghost free: { clock.ceiling ≡ 2 ^ 64 - 1 },
 }
 
-/// An id as messages tell it.
+/// An id as messages tell it: so far a number.
 fn text_of(alloc: Global, id: &Id) -> Result<String, AllocError>
     ensures { IfOk result (λ s. string_bytes s ≡ id_text id.now) }
 {
     match id {
         Id::Num(number) => format!(in alloc; "{number}"),
+        _ => Ok(String::new(alloc)),
     }
 }
 

@@ -1,17 +1,27 @@
 -- What the items of a statement do to rows, one after the other, each over the rows that those before it left.
-use Rattle.std.specs.Prelude.{List, [], ◌∷◌, ◌++◌, Option, Some, None, Result, Ok, Err, if◌then◌else◌}
+use Rattle.std.specs.Prelude.{ℕ, Bool, not, List, [], ◌∷◌, ◌++◌, filter, take, Option, Some, None, Result, Ok, Err, if◌then◌else◌}
 use Rattle.bson_core.specs.Fields.{Document}
 use Rattle.txn_types.specs.declared.id.Id.{Id}
+use Rattle.txn_types.specs.declared.filter.Filter.{Filter}
+use Rattle.txn_types.specs.declared.update.Update.{Update}
 use Rattle.txn_types.specs.declared.operation.InsertItem.{InsertItem}
+use Rattle.txn_types.specs.declared.operation.UpdateItem.{UpdateItem}
+use Rattle.txn_types.specs.declared.operation.DeleteItem.{DeleteItem}
 use Rattle.txn_types.specs.declared.operation.OpErr.{OpErr}
+use Rattle.txn_types.specs.declared.operation.What.{What}
 use Rattle.txn_types.specs.declared.operation.What.TheVariants.{Duplicate}
 use Rattle.txn_semantics.specs.Rows.{Row, holds_id}
 
--- what is known of documents and decides what a statement does: so far, their ids
+-- what is known of documents and decides what a statement does: which of them a filter matches, what an update makes of
+-- one, whether two have the same bytes, how many bytes one has, and its id
 pub record Words : Type 0 where
+  pub matches : Filter → Document → Bool
+  pub apply : Update → Document → Result Document What
+  pub same : Document → Document → Bool
+  pub size : Document → ℕ
   pub id_in : Document → Option Id
 
--- the rows that items met, and those that they left with new content, in the order of the items
+-- the rows that items met, and those that they left with new content or took away, in the order of the items
 pub record Done : Type 0 where
   pub met : List Row
   pub changed : List Row
@@ -34,7 +44,12 @@ abbrev pub after : Doing → (Done → Doing) → Doing
 after (Ok done) next = with_done done (next done)
 after (Err e) next = Err e
 
--- item by item, up to the first refusal
+-- row by row, up to the first refusal
+abbrev pub each : (Row → Doing) → List Row → Doing
+each act [] = Ok nothing
+each act (row ∷ rows) = after (act row) (λ _. each act rows)
+
+-- item by item, each over the rows that those before it left, up to the first refusal
 abbrev pub through : {I : Type 0} → (I → List Row → Doing) → (List Row → List Row → List Row) → List I → List Row → Doing
 through step left [] rows = Ok nothing
 through step left (item ∷ items) rows = after (step item rows) (λ done. through step left items (left rows done.changed))
@@ -49,3 +64,29 @@ insert_new item rows id =
 -- an item is a document with an id; one without, which no insert holds, does nothing
 abbrev pub insert_step : Words → InsertItem → List Row → Doing
 insert_step w item rows = elim (w.id_in item.doc) [ None ↦ Ok nothing | Some id ↦ insert_new item rows id ]
+
+-- the rows that an item meets: all that match, or the first of them
+abbrev pub matching : Words → Filter → List Row → List Row
+matching w wanted rows = filter (λ row. w.matches wanted row.1) rows
+
+abbrev pub met_by : Words → Filter → Bool → List Row → List Row
+met_by w wanted many rows = if many then matching w wanted rows else take 1 (matching w wanted rows)
+
+-- a row that is met gets its new document; it is changed where that has other bytes
+abbrev pub updated : Words → UpdateItem → Row → Doing
+updated w item row =
+    elim (w.apply item.update row.1) [
+      | Err what ↦ Err (record { index = item.index; id = row.0; what = what })
+      | Ok doc ↦ Ok (record { met = row ∷ []; changed = if w.same row.1 doc then [] else ((row.0, doc) ∷ []) })
+    ]
+
+abbrev pub update_step : Words → UpdateItem → List Row → Doing
+update_step w item rows = each (updated w item) (met_by w item.filter item.many rows)
+
+-- a row that is met is taken away
+abbrev pub delete_step : Words → DeleteItem → List Row → Doing
+delete_step w item rows = Ok (record { met = met_by w item.filter item.many rows; changed = met_by w item.filter item.many rows })
+
+-- the rows without those
+abbrev pub without : List Row → List Row → List Row
+without rows gone = filter (λ row. not (holds_id row.0 gone)) rows

@@ -1,7 +1,11 @@
 pub mod Keyed
 pub mod Rows
+pub mod Filters
+pub mod Updates
 pub mod Effect
+pub mod Found
 pub mod Meaning
+pub mod Merge
 pub mod View
 pub mod Writes
 pub mod Answers

@@ -1,15 +1,20 @@
 -- What a statement means: its reply and its writes over one list of rows, rising by id; or its refusal.
 use Rattle.std.specs.Prelude.{ℕ, ◌-◌, ◌^◌, List, [], Result, Ok, Err, map, length, min}
+use Rattle.std.specs.Str.{bytes_eq}
+use Rattle.bson_core.specs.Spelling.{spelling}
 use Rattle.txn_types.specs.Ids.{id_in}
 use Rattle.txn_types.specs.declared.operation.Op.{Op}
-use Rattle.txn_types.specs.declared.operation.Op.TheVariants.{Insert}
+use Rattle.txn_types.specs.declared.operation.Op.TheVariants.{Insert, Find, Update, Delete}
 use Rattle.txn_types.specs.declared.operation.OpReply.{OpReply}
-use Rattle.txn_types.specs.declared.operation.OpReply.TheVariants.{Count}
+use Rattle.txn_types.specs.declared.operation.OpReply.TheVariants.{Count, Rows}
 use Rattle.txn_types.specs.declared.operation.OpErr.{OpErr}
 use Rattle.txn_types.specs.declared.write.Write.{Write}
-use Rattle.txn_types.specs.declared.write.Write.TheVariants.{Put}
+use Rattle.txn_types.specs.declared.write.Write.TheVariants.{Put, Delete as Removed}
 use Rattle.txn_semantics.specs.Rows.{Row, laid_over}
-use Rattle.txn_semantics.specs.Effect.{Words, Done, Doing, through, insert_step}
+use Rattle.txn_semantics.specs.Filters.{matches}
+use Rattle.txn_semantics.specs.Updates.{apply}
+use Rattle.txn_semantics.specs.Effect.{Words, Done, Doing, through, insert_step, update_step, delete_step, without}
+use Rattle.txn_semantics.specs.Found.{Found, found}
 
 abbrev pub Meaning : Type 0
 Meaning = Result (OpReply × List Write) OpErr
@@ -26,15 +31,29 @@ meaning_of reply write (Err e) = Err e
 abbrev pub put_of : List ℕ → Row → Write
 put_of ns row = Put ns row.0 row.1
 
--- how many documents the items met; none of them was changed
+abbrev pub removed_of : List ℕ → Row → Write
+removed_of ns row = Removed ns row.0
+
+-- how many documents the items met
 abbrev pub count_met : Done → OpReply
 count_met done = Count (capped (length done.met)) 0
 
+-- and how many of them got other bytes
+abbrev pub count_both : Done → OpReply
+count_both done = Count (capped (length done.met)) (capped (length done.changed))
+
+abbrev pub rows_of : Found → OpReply
+rows_of found = Rows found.0 found.1
+
+-- the documents of a find have at most 16,000,000 bytes
 abbrev pub eval_by : Words → Op → List Row → Meaning
 eval_by w (Insert ns items) rows = meaning_of count_met (put_of ns) (through (insert_step w) laid_over items rows)
+eval_by w (Find ns wanted down limit) rows = Ok (rows_of (found w 16000000 wanted down limit rows), [])
+eval_by w (Update ns items) rows = meaning_of count_both (put_of ns) (through (update_step w) laid_over items rows)
+eval_by w (Delete ns items) rows = meaning_of count_met (removed_of ns) (through (delete_step w) without items rows)
 
 abbrev pub words : Words
-words = record { id_in = id_in }
+words = record { matches = matches; apply = apply; same = λ a b. bytes_eq (spelling a) (spelling b); size = λ doc. length (spelling doc); id_in = id_in }
 
 -- the meaning of an operation over rows
 abbrev pub eval : Op → List Row → Meaning
@@ -53,3 +72,6 @@ writes_of (Err e) = []
 -- the namespace of an operation
 abbrev pub ns_of : Op → List ℕ
 ns_of (Insert ns items) = ns
+ns_of (Find ns wanted down limit) = ns
+ns_of (Update ns items) = ns
+ns_of (Delete ns items) = ns

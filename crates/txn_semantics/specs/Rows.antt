@@ -1,8 +1,9 @@
 -- The rows of a collection: documents by id, rising; and what writes do to them.
-use Rattle.std.specs.Prelude.{ℕ, Bool, List, [], ◌∷◌, if◌then◌else◌}
+use Rattle.std.specs.Prelude.{◌≡◌, ℕ, Bool, List, [], ◌∷◌, Some, if◌then◌else◌}
 use Rattle.std.specs.List.{list_any}
 use Rattle.std.specs.Str.{bytes_eq}
 use Rattle.bson_core.specs.Fields.{Document}
+use Rattle.txn_types.specs.Ids.{id_in}
 use Rattle.txn_types.specs.Order.{id_cmp, same_id}
 use Rattle.txn_types.specs.declared.id.Id.{Id}
 use Rattle.txn_types.specs.declared.write.Write.{Write}
@@ -21,13 +22,18 @@ put_row id doc rows = put id_cmp id doc rows
 abbrev pub delete_row : Id → List Row → List Row
 delete_row id rows = taken_out id_cmp id rows
 
--- the rows with others laid over them
-abbrev pub laid_over : List Row → List Row → List Row
+-- what stands under ids, with others laid over it
+abbrev pub laid_over : {A : Type 0} → List (Id × A) → List (Id × A) → List (Id × A)
 laid_over rows others = laid id_cmp rows others
 
 -- the ids rise
-abbrev pub IsRising : List Row → Type 0
+abbrev pub IsRising : {A : Type 0} → List (Id × A) → Type 0
 IsRising rows = Rises id_cmp rows
+
+-- each document has its row's id
+abbrev pub AreKnown : List Row → Type 0
+AreKnown [] = Unit {0}
+AreKnown (row ∷ rows) = (id_in row.1 ≡ Some row.0) × AreKnown rows
 
 -- a row of this id is there
 abbrev pub holds_id : Id → List Row → Bool
