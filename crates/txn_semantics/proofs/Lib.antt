@@ -2,3 +2,14 @@ pub mod Laying
 pub mod Places
 pub mod Viewing
 pub mod Inserting
+pub mod Parts
+pub mod Halves
+pub mod Through
+pub mod Steps
+pub mod Totals
+pub mod Finds
+pub mod Merged
+pub mod Good
+pub mod Joins
+pub mod Whole
+pub mod Routing

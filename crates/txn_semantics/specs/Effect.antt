@@ -1,5 +1,5 @@
 -- What the items of a statement do to rows, one after the other, each over the rows that those before it left.
-use Rattle.std.specs.Prelude.{ℕ, Bool, not, List, [], ◌∷◌, ◌++◌, filter, take, Option, Some, None, Result, Ok, Err, if◌then◌else◌}
+use Rattle.std.specs.Prelude.{◌≡◌, ℕ, Bool, not, List, [], ◌∷◌, ◌++◌, filter, take, Option, Some, None, Result, Ok, Err, if◌then◌else◌}
 use Rattle.bson_core.specs.Fields.{Document}
 use Rattle.txn_types.specs.declared.id.Id.{Id}
 use Rattle.txn_types.specs.declared.filter.Filter.{Filter}
@@ -20,6 +20,11 @@ pub record Words : Type 0 where
   pub same : Document → Document → Bool
   pub size : Document → ℕ
   pub id_in : Document → Option Id
+
+-- each document has its row's id
+abbrev pub AreKnown : Words → List Row → Type 0
+AreKnown w [] = Unit {0}
+AreKnown w (row ∷ rows) = (w.id_in row.1 ≡ Some row.0) × AreKnown w rows
 
 -- the rows that items met, and those that they left with new content or took away, in the order of the items
 pub record Done : Type 0 where

@@ -1,5 +1,5 @@
 -- Lists that hold one thing under each key, rising by the key: rows by id, writes by namespace and id.
-use Rattle.std.specs.Prelude.{◌≡◌, List, [], ◌∷◌}
+use Rattle.std.specs.Prelude.{◌≡◌, Bool, List, [], ◌∷◌, filter}
 use Rattle.std.specs.declared.cmp.Ordering.{Ordering}
 use Rattle.std.specs.declared.cmp.Ordering.TheVariants.{Less, Equal, Greater}
 
@@ -17,6 +17,10 @@ taken_out cmp key (row ∷ rows) = elim (cmp key row.0) [ Less ↦ row ∷ rows 
 abbrev pub laid : {K A : Type 0} → (K → K → Ordering) → List (K × A) → List (K × A) → List (K × A)
 laid cmp rows [] = rows
 laid cmp rows (other ∷ others) = laid cmp (put cmp other.0 other.1 rows) others
+
+-- those whose keys pass the test
+abbrev pub at : {K A : Type 0} → (K → Bool) → List (K × A) → List (K × A)
+at here rows = filter (λ row. here row.0) rows
 
 -- each key is above this one
 abbrev pub AllAbove : {K A : Type 0} → (K → K → Ordering) → K → List (K × A) → Type 0

@@ -6,6 +6,8 @@ pub mod Effect
 pub mod Found
 pub mod Meaning
 pub mod Merge
+pub mod Splits
+pub mod Routed
 pub mod View
 pub mod Writes
 pub mod Answers

@@ -1,25 +1,24 @@
 -- The rows of a collection: documents by id, rising; and what writes do to them.
-use Rattle.std.specs.Prelude.{◌≡◌, ℕ, Bool, List, [], ◌∷◌, Some, if◌then◌else◌}
+use Rattle.std.specs.Prelude.{ℕ, Bool, List, [], ◌∷◌, if◌then◌else◌}
 use Rattle.std.specs.List.{list_any}
 use Rattle.std.specs.Str.{bytes_eq}
 use Rattle.bson_core.specs.Fields.{Document}
-use Rattle.txn_types.specs.Ids.{id_in}
 use Rattle.txn_types.specs.Order.{id_cmp, same_id}
 use Rattle.txn_types.specs.declared.id.Id.{Id}
 use Rattle.txn_types.specs.declared.write.Write.{Write}
 use Rattle.txn_types.specs.declared.write.Write.TheVariants.{Put, Delete}
-use Rattle.txn_semantics.specs.Keyed.{put, taken_out, laid, Rises}
+use Rattle.txn_semantics.specs.Keyed.{put, taken_out, laid, Rises, at as keyed_at}
 
 -- an id and its document
 abbrev pub Row : Type 0
 Row = Id × Document
 
--- the rows with this document under its id
-abbrev pub put_row : Id → Document → List Row → List Row
-put_row id doc rows = put id_cmp id doc rows
+-- what stands under ids, with this under one
+abbrev pub put_row : {A : Type 0} → Id → A → List (Id × A) → List (Id × A)
+put_row id a rows = put id_cmp id a rows
 
--- the rows without that id
-abbrev pub delete_row : Id → List Row → List Row
+-- what stands under ids, without that id
+abbrev pub delete_row : {A : Type 0} → Id → List (Id × A) → List (Id × A)
 delete_row id rows = taken_out id_cmp id rows
 
 -- what stands under ids, with others laid over it
@@ -30,10 +29,9 @@ laid_over rows others = laid id_cmp rows others
 abbrev pub IsRising : {A : Type 0} → List (Id × A) → Type 0
 IsRising rows = Rises id_cmp rows
 
--- each document has its row's id
-abbrev pub AreKnown : List Row → Type 0
-AreKnown [] = Unit {0}
-AreKnown (row ∷ rows) = (id_in row.1 ≡ Some row.0) × AreKnown rows
+-- those of the ids that pass the test
+abbrev pub at : {A : Type 0} → (Id → Bool) → List (Id × A) → List (Id × A)
+at here rows = keyed_at here rows
 
 -- a row of this id is there
 abbrev pub holds_id : Id → List Row → Bool

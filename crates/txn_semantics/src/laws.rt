@@ -13,6 +13,13 @@ ghost use Rattle.txn_semantics.specs.Rows.{Row, IsRising, holds_id};
 ghost use Rattle.txn_semantics.specs.View.{view};
 ghost use Rattle.txn_semantics.specs.Meaning.{eval};
 ghost use Rattle.txn_semantics.specs.Writes.{Place, place_cmp};
+ghost use Rattle.txn_types.specs.declared.operation.Op.{Op};
+ghost use Rattle.txn_types.specs.declared.write.Write.{Write};
+ghost use Rattle.std.specs.Prelude.{Bool, filter};
+ghost use Rattle.txn_semantics.specs.Rows.{at, under};
+ghost use Rattle.txn_semantics.specs.Effect.{Words, AreKnown};
+ghost use Rattle.txn_semantics.specs.Splits.{IsSplit, RepliesMerge, WritesSplit, WritesJoin, written_id};
+ghost use Rattle.txn_semantics.specs.Routed.{KeepsId, IsRouted};
 
 /// An entry above the moment leaves the view, wherever it stands among the entries. So what was read at a moment
 /// stays what it was, whatever commits above it.
@@ -38,4 +45,27 @@ pub fn one_insert()
         → eval (Insert ns (item ∷ [])) rows ≡ Err (record { index = item.index; id = id; what = Duplicate }) }
     ensures done { (ns : List ℕ) (item : InsertItem) (id : Id) (rows : List Row) → id_in item.doc ≡ Some id → holds_id id rows ≡ false
         → eval (Insert ns (item ∷ [])) rows ≡ Ok (Count 1 0, Put ns id item.doc ∷ []) }
+{}
+
+/// A statement splits over shards. What is told of the replies and refusals of the shards asked is what is told over
+/// their joined rows; each shard's writes are those of the whole that are placed there; and the writes of the shards
+/// asked, joined by id, are those of the whole. Here the indices of an operation's items rise, a document of an insert
+/// goes where a row of its id would stand, each row that an item meets stands at one of the shards asked, which is named
+/// once, and an item for one document meets rows of one shard, among the rows that it finds behind the items before it.
+pub fn a_statement_splits()
+    ensures replies { (w : Words) (place : Id → ℕ) (shards : List ℕ) (op : Op) (rows : List Row) → IsRising rows → IsSplit w place shards op rows → RepliesMerge w place shards op rows }
+    ensures writes { (w : Words) (place : Id → ℕ) (shards : List ℕ) (op : Op) (rows : List Row) → IsRising rows → IsSplit w place shards op rows → WritesSplit w place op rows }
+    ensures join { (w : Words) (place : Id → ℕ) (shards : List ℕ) (op : Op) (rows : List Row) → IsRising rows → IsSplit w place shards op rows → WritesJoin w place shards op rows }
+{}
+
+/// A statement splits, whatever the rows are, where each filter is asked of every shard at which a document that it
+/// matches may stand, and that of an item for one document of one shard.
+pub fn what_is_routed_splits()
+    ensures { (w : Words) → KeepsId w → (place : Id → ℕ) (shards : List ℕ) (op : Op) (rows : List Row) → AreKnown w rows → IsRouted w place shards op → IsSplit w place shards op rows }
+{}
+
+/// A shard's rows under its own writes are the shard's part of all rows under all writes.
+pub fn own_writes_split()
+    ensures { (here : Id → Bool) (ns : List ℕ) (rows : List Row) (writes : List Write) → IsRising rows
+        → at here (under ns rows writes) ≡ under ns (at here rows) (filter (λ write. here (written_id write)) writes) }
 {}
