@@ -127,7 +127,7 @@ module _ {K : Type 0} (cmp : K → K → Ordering) (total : IsTotalOrder cmp) (e
   self_reverse Equal h = refl
   self_reverse Greater h = cc
 
-  cmp_self : (a : K) → cmp a a ≡ Equal
+  pub cmp_self : (a : K) → cmp a a ≡ Equal
   cmp_self a = self_reverse (cmp a a) (total.antisymm a a)
 
   put_again : {A : Type 0} (row : K × A) (rows : List (K × A)) → put cmp row.0 row.1 (row ∷ rows) ≡ row ∷ rows

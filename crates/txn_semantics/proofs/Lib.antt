@@ -13,3 +13,4 @@ pub mod Good
 pub mod Joins
 pub mod Whole
 pub mod Routing
+pub mod Unmet

@@ -8,6 +8,7 @@ pub mod Meaning
 pub mod Merge
 pub mod Splits
 pub mod Routed
+pub mod Unmet
 pub mod View
 pub mod Writes
 pub mod Answers

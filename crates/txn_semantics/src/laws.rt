@@ -18,6 +18,8 @@ ghost use Rattle.txn_types.specs.declared.write.Write.{Write};
 ghost use Rattle.std.specs.Prelude.{Bool, filter};
 ghost use Rattle.txn_semantics.specs.Rows.{at, under};
 ghost use Rattle.txn_semantics.specs.Effect.{Words, AreKnown};
+ghost use Rattle.txn_semantics.specs.Unmet.{CantMeet};
+ghost use Rattle.txn_semantics.specs.Meaning.{eval_by};
 ghost use Rattle.txn_semantics.specs.Splits.{IsSplit, RepliesMerge, WritesSplit, WritesJoin, written_id};
 ghost use Rattle.txn_semantics.specs.Routed.{KeepsId, IsRouted};
 
@@ -68,4 +70,10 @@ pub fn what_is_routed_splits()
 pub fn own_writes_split()
     ensures { (here : Id → Bool) (ns : List ℕ) (rows : List Row) (writes : List Write) → IsRising rows
         → at here (under ns rows writes) ≡ under ns (at here rows) (filter (λ write. here (written_id write)) writes) }
+{}
+
+/// A row that no item can meet leaves the meaning of an operation as it is, whether it is there or not.
+pub fn a_row_that_cant_match_leaves()
+    ensures { (w : Words) (op : Op) (front : List Row) (row : Row) (behind : List Row) → IsRising (front ++ row ∷ behind) → CantMeet w op row
+        → eval_by w op (front ++ row ∷ behind) ≡ eval_by w op (front ++ behind) }
 {}
