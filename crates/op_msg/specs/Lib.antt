@@ -1,4 +1,6 @@
 pub mod Words
 pub mod Message
+pub mod Written
 pub mod Errors
 pub mod Reading
+pub mod Stream

@@ -1,13 +1,16 @@
-//! Messages of the MongoDB wire protocol: OP_MSG, opcode 2013. So far a message has no flags and one section,
-//! its body.
+//! Messages of the MongoDB wire protocol: OP_MSG, opcode 2013, with sections and flags; and streams of them.
 #![tactic(auto)]
 
+mod feeder;
 mod frame;
 mod header;
+mod laws;
 mod reading;
 mod words;
 mod writing;
 
+pub use feeder::{Feeder, cuts_dont_matter, messages_come_out, no_byte_is_lost};
 pub use frame::{Frame, FrameErr, Seqs};
+pub use laws::{messages_are_told_apart, written_frame_is_a_message};
 pub use reading::read_frame;
 pub use writing::write_frame;

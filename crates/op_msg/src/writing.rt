@@ -1,4 +1,4 @@
-ghost use Rattle.std.specs.Prelude.{◌≡◌, ◌++◌, ◌+◌, ◌-◌, ◌^◌, ◌<◌, ◌≤◌, ◌⊎◌, false, length, min, OnOk, OnErr, IfErr};
+ghost use Rattle.std.specs.Prelude.{◌≡◌, ◌++◌, ◌-◌, ◌^◌, ◌<◌, ◌≤◌, ◌⊎◌, false, length, min, OnOk, OnErr, IfErr};
 ghost use Rattle.std.specs.List.{flat_map};
 ghost use Rattle.bson_core.specs.Spelling.{spelling};
 ghost use Rattle.op_msg.specs.Message.{front, sequence_section, sequences, sections, flags_of, message};
@@ -13,16 +13,23 @@ use std::alloc::Global;
 const MOST: u64 = 400_000_000;
 
 /// The bytes of the header and of the flags.
-const FRONT: u64 = 20;
+const FRONT_SIZE: u64 = 20;
 
 /// The bytes of a sequence beside its name and its documents: the kind, the size, and the 00 behind the name.
-const SEQUENCE: u64 = 6;
+const SEQUENCE_FRAME: u64 = 6;
 
 const OP_MSG: u32 = 2013;
+
+/// The kind of the section that is the body.
+const BODY: u8 = 0;
+
+/// The kind of a section that is a sequence.
+const SEQUENCE: u8 = 1;
 
 /// The flag moreToCome.
 const MORE: u32 = 2;
 
+/// How many bytes the documents have, one after the other.
 fn documents_size(docs: &[Doc]) -> u64
     ensures { result ≡ min (length (flat_map spelling docs.now)) (2 ^ 64 - 1) }
 {
@@ -33,13 +40,15 @@ fn documents_size(docs: &[Doc]) -> u64
     sum
 }
 
+/// How many bytes the section has that holds the sequence.
+#[tactic(auto, using(crate::proofs::Fronts::length_sequence_section))]
 fn sequence_size(name: &Name, docs: &[Doc]) -> u64
     ensures { result ≡ min (length (sequence_section name.now (flat_map spelling docs.now))) (2 ^ 64 - 1) }
 {
     let name = name.as_str().len() as u64;
     documents_size(docs)
         .saturating_add(name)
-        .saturating_add(SEQUENCE)
+        .saturating_add(SEQUENCE_FRAME)
 }
 
 fn sequences_size(seqs: &[(Name, Items<Doc>)]) -> u64
@@ -52,31 +61,32 @@ fn sequences_size(seqs: &[(Name, Items<Doc>)]) -> u64
     sum
 }
 
-/// The bytes of a message.
+/// How many bytes the message has.
 fn message_size(frame: &Frame) -> u64
     ensures { result ≡ min (length (message frame.now)) (2 ^ 64 - 1) }
 {
     let body = size(&frame.body).saturating_add(1);
     let sequences = sequences_size(frame.seqs.as_slice());
-    body.saturating_add(sequences).saturating_add(FRONT)
+    body.saturating_add(sequences).saturating_add(FRONT_SIZE)
 }
 
-/// Appends the header of a message of that length, and its flags.
-fn put_front(
-    out: &mut Vec<u8>,
-    len: u32,
-    request_id: i32,
-    response_to: i32,
-    flags: u32,
-) -> Result<(), FrameErr>
-    ensures ok { OnOk result (out.new.items ≡ out.old.items ++ front len request_id response_to flags) }
+/// The flags of the message: moreToCome or none.
+fn flags_of(more: bool) -> u32
+    ensures { result ≡ flags_of more }
+{
+    if more { MORE } else { 0 }
+}
+
+/// Appends the message's header, with that length, and its flags.
+fn put_front(out: &mut Vec<u8>, len: u32, frame: &Frame) -> Result<(), FrameErr>
+    ensures ok { OnOk result (out.new.items ≡ out.old.items ++ front len frame.now.request_id frame.now.response_to (flags_of frame.now.more)) }
     ensures refused { IfErr result (λ e. e ≡ FrameErr.Memory) }
 {
     put_word(out, len)?;
-    put_word(out, request_id.cast_unsigned())?;
-    put_word(out, response_to.cast_unsigned())?;
+    put_word(out, frame.request_id.cast_unsigned())?;
+    put_word(out, frame.response_to.cast_unsigned())?;
     put_word(out, OP_MSG)?;
-    put_word(out, flags)
+    put_word(out, flags_of(frame.more))
 }
 
 fn put_document(alloc: Global, out: &mut Vec<u8>, doc: &Doc) -> Result<(), FrameErr>
@@ -104,8 +114,9 @@ fn put_sequence(alloc: Global, out: &mut Vec<u8>, name: &Name, docs: &[Doc]) -> 
     ensures ok { OnOk result (out.new.items ≡ out.old.items ++ sequence_section name.now (flat_map spelling docs.now)) }
     ensures refused { IfErr result (λ e. e ≡ FrameErr.Memory) }
 {
+    // The size in a section doesn't count the kind in front of it.
     let size = sequence_size(name, docs) as u32 - 1;
-    out.push(1)?;
+    out.push(SEQUENCE)?;
     put_word(out, size)?;
     out.extend_from_slice(name.as_str().as_bytes())?;
     out.push(0)?;
@@ -132,7 +143,7 @@ fn put_sections(alloc: Global, out: &mut Vec<u8>, frame: &Frame) -> Result<(), F
     ensures ok { OnOk result (out.new.items ≡ out.old.items ++ sections frame.now) }
     ensures refused { IfErr result (λ e. e ≡ FrameErr.Memory) }
 {
-    out.push(0)?;
+    out.push(BODY)?;
     put_document(alloc, out, &frame.body)?;
     put_sequences(alloc, out, frame.seqs.as_slice())
 }
@@ -140,7 +151,7 @@ fn put_sections(alloc: Global, out: &mut Vec<u8>, frame: &Frame) -> Result<(), F
 /// Appends the message's bytes, in its one spelling: the body first, then the sequences, and no checksum. Of the flags
 /// only moreToCome may be set.
 ///
-/// It goes through each document twice for its size and once for its bytes.
+/// It goes through a document at most three times for its size, and once for its bytes.
 pub fn write_frame(alloc: Global, frame: &Frame, out: &mut Vec<u8>) -> Result<(), FrameErr>
     requires { frame.now.legacy ≡ false }
     ensures ok { OnOk result (out.new.items ≡ out.old.items ++ message frame.now) }
@@ -154,15 +165,8 @@ pub fn write_frame(alloc: Global, frame: &Frame, out: &mut Vec<u8>) -> Result<()
     if len > MOST {
         return Err(FrameErr::TooLarge);
     }
-    let flags = if frame.more { MORE } else { 0 };
     let mut whole = Vec::new(alloc);
-    put_front(
-        &mut whole,
-        len as u32,
-        frame.request_id,
-        frame.response_to,
-        flags,
-    )?;
+    put_front(&mut whole, len as u32, frame)?;
     put_sections(alloc, &mut whole, frame)?;
     out.extend_from_slice(&whole)?;
     Ok(())
