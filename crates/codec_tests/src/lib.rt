@@ -5,6 +5,8 @@
 #[cfg(test)]
 mod documents;
 #[cfg(test)]
+mod feeder;
+#[cfg(test)]
 mod messages;
 #[cfg(test)]
 mod order;

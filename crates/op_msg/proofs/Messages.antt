@@ -177,3 +177,6 @@ frame_again bytes f m =
 pub is_found : (bytes : List ℕ) (r : Result Frame FrameErr) → ((i : ℕ) → get_or bytes i 0 < 256) → Gives (λ (f : Frame). f) r (frame_of bytes) → IfOk r (λ f. IsMessage bytes f)
 is_found bytes (Ok f) fits given = frame_found bytes f fits given
 is_found bytes (Err e) fits given = tt
+
+pub one_message : (f g : Frame) (bytes : List ℕ) → IsMessage bytes f → IsMessage bytes g → f ≡ g
+one_message f g bytes first second = ok_is f g (sym (frame_again bytes f first) ∙ frame_again bytes g second)

@@ -11,6 +11,9 @@ mod writing;
 
 pub use feeder::{Feeder, cuts_dont_matter, messages_come_out, no_byte_is_lost};
 pub use frame::{Frame, FrameErr, Seqs};
-pub use laws::{messages_are_told_apart, written_frame_is_a_message};
+pub use laws::{
+    message_has_no_fault, messages_are_told_apart, reading_undoes_writing,
+    written_frame_is_a_message,
+};
 pub use reading::read_frame;
 pub use writing::write_frame;
