@@ -1,7 +1,9 @@
 -- Lines of a schedule, and what they ask.
-use Rattle.std.specs.Prelude.{◌≡◌, ℕ, ◌≤◌, ◌<◌, ◌^◌, ◌==◌, ◌&&◌, Bool, IsTrue, not, true, take, drop, List, [], ◌∷◌, ◌++◌, length, if◌then◌else◌, Ok, codes, decimal}
+use Rattle.std.specs.Prelude.{◌≡◌, ℕ, ◌≤◌, ◌<◌, ◌^◌, ◌==◌, ◌&&◌, Bool, IsTrue, not, true, false, Option, Some, None, drop, List, [], ◌∷◌, ◌++◌, length, if◌then◌else◌, Ok, codes, decimal}
 use Rattle.std.specs.List.{list_all, slice_split}
+use Rattle.std.specs.Int.{w32}
 use Rattle.hex.specs.Hex.{decode_of}
+use Rattle.bson_core.specs.Reading.{number_at}
 use Rattle.op_msg.specs.declared.frame.Frame.{Frame}
 use Rattle.op_msg.specs.Message.{IsMessage}
 
@@ -32,9 +34,17 @@ pub record Asked : Type 0 where
   pub connection : ℕ
   pub request : Frame
 
--- a message as it is served so far: no flag is set, the flags being the bytes 16 to 19, and the body is the one section
+-- whether the flags of a message, which stand behind its header of 16 bytes, are all clear
+abbrev pub are_clear : Option (ℕ × List ℕ) → Bool
+are_clear None = false
+are_clear (Some flags) = flags.0 == 0
+
+abbrev pub has_no_flag : List ℕ → Bool
+has_no_flag bytes = are_clear (number_at w32 (drop 16 bytes))
+
+-- a message as it is served so far: no flag is set, and its body is the one section
 abbrev pub is_plain : List ℕ → Frame → Bool
-is_plain bytes request = list_all (λ b. b == 0) (take 4 (drop 16 bytes)) && length request.seqs == 0
+is_plain bytes request = has_no_flag bytes && length request.seqs == 0
 
 -- the line brings this message on this connection; no longer line is played
 pub record Asks (line : List ℕ) (a : Asked) : Type 0 where

@@ -4,7 +4,7 @@ ghost use Rattle.outcomes.specs.Told.{Told};
 ghost use Rattle.op_msg.specs.Message.{message};
 ghost use Rattle.outside_core.specs.Bytes.{Went, WentInPart};
 ghost use Rattle.mtx.specs.Words.{word_at_fault};
-ghost use Rattle.mtx.specs.Lines.{lines_of, is_plain, Asks};
+ghost use Rattle.mtx.specs.Lines.{lines_of, has_no_flag, is_plain, Asks};
 ghost use Rattle.mtx.specs.Standing.{state_of, StandsAt, HasInserted};
 ghost use Rattle.mtx.specs.Serving.{reply_to, served};
 ghost use Rattle.mtx.specs.Text.{reply_line, dump};
@@ -19,6 +19,7 @@ use crate::input::{End, Input, read_input};
 use crate::line::{ClientLine, LineErr, next_line, read_line};
 use crate::server::Server;
 use crate::status::Status;
+use bson_core::front_u32;
 use itoa::Buffer;
 use op_msg::{Frame, read_frame, write_frame};
 use outside_core::{Sink, SinkErr, Source, SourceErr, write_all};
@@ -77,11 +78,25 @@ struct Ask {
     request: Frame,
 }
 
+/// Whether the flags of a message are all clear.
+#[tactic(auto, unfolding(bson_core::specs::Reading::number_at))]
+fn has_no_flag(bytes: &[u8]) -> bool
+    ensures { result ≡ has_no_flag bytes.now }
+{
+    if bytes.len() < 16 {
+        return false;
+    }
+    match front_u32(&bytes[16..]) {
+        Some((flags, _)) => flags == 0,
+        None => false,
+    }
+}
+
 /// Whether a message has no flags and no sequences, as those have that are served so far.
 fn is_plain(bytes: &[u8], request: &Frame) -> bool
     ensures { result ≡ is_plain bytes.now request.now }
 {
-    bytes.iter().skip(16).take(4).all(|b| *b == 0) && request.seqs.is_empty()
+    has_no_flag(bytes) && request.seqs.is_empty()
 }
 
 /// Reads what a line asks.
