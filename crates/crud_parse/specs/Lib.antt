@@ -1,0 +1,5 @@
+pub mod Results
+pub mod Names
+pub mod Operators
+pub mod Filters
+pub mod Updates
