@@ -1,3 +1,12 @@
 pub mod Matching
 pub mod Sums
 pub mod Bound
+pub mod SameIds
+pub mod Placed
+pub mod Keeping
+pub mod Acting
+pub mod Turning
+pub mod Operating
+pub mod Telling
+pub mod Joining
+pub mod Under

@@ -1,2 +1,4 @@
 pub mod Wanted
 pub mod Refusals
+pub mod Held
+pub mod Acts

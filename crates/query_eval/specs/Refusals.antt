@@ -1,5 +1,5 @@
 -- What a call of `apply` gives: the result that the definition has, or want of memory.
-use Rattle.std.specs.Prelude.{◌≡◌, Result, Ok, Err}
+use Rattle.std.specs.Prelude.{◌≡◌, Option, Some, None, Result, Ok, Err}
 use Rattle.txn_types.specs.declared.operation.What.{What}
 use Rattle.txn_types.specs.declared.operation.What.TheVariants as what
 use Rattle.query_eval.specs.declared.error.ApplyErr.{ApplyErr}
@@ -16,3 +16,11 @@ Tells Memory means = Unit {0}
 abbrev pub Gives : {A : Type 0} → Result A ApplyErr → Result A What → Type 0
 Gives (Ok a) means = means ≡ Ok a
 Gives (Err e) means = Tells e means
+
+-- why an operation is refused, by the error of `apply`
+abbrev pub told : ApplyErr → Option What
+told NotNumber = Some what.NotNumber
+told Overflow = Some what.Overflow
+told Immutable = Some what.Immutable
+told TooLarge = Some what.TooLarge
+told Memory = None

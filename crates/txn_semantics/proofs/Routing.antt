@@ -33,11 +33,11 @@ known_put_case w id doc row rows Less h all more = (h, all)
 known_put_case w id doc row rows Equal h all more = (h, all.1)
 known_put_case w id doc row rows Greater h all more = (all.0, more)
 
-known_put : (w : Words) (id : Id) (doc : Document) (rows : List Row) → w.id_in doc ≡ Some id → AreKnown w rows → AreKnown w (put_row id doc rows)
+pub known_put : (w : Words) (id : Id) (doc : Document) (rows : List Row) → w.id_in doc ≡ Some id → AreKnown w rows → AreKnown w (put_row id doc rows)
 known_put w id doc [] h all = (h, tt)
 known_put w id doc (row ∷ rows) h all = known_put_case w id doc row rows (id_cmp id row.0) h all (known_put w id doc rows h all.1)
 
-known_laid : (w : Words) (rows others : List Row) → AreKnown w rows → AreKnown w others → AreKnown w (laid_over rows others)
+pub known_laid : (w : Words) (rows others : List Row) → AreKnown w rows → AreKnown w others → AreKnown w (laid_over rows others)
 known_laid w rows [] h g = h
 known_laid w rows (row ∷ others) h g = known_laid w (put_row row.0 row.1 rows) others (known_put w row.0 row.1 rows g.0 h) g.1
 
@@ -49,7 +49,7 @@ known_kept : (w : Words) (row : Row) (rows : List Row) (b : Bool) → w.id_in ro
 known_kept w row rows true h more = (h, more)
 known_kept w row rows false h more = more
 
-known_filter : (w : Words) (p : Row → Bool) (rows : List Row) → AreKnown w rows → AreKnown w (filter p rows)
+pub known_filter : (w : Words) (p : Row → Bool) (rows : List Row) → AreKnown w rows → AreKnown w (filter p rows)
 known_filter w p [] h = tt
 known_filter w p (row ∷ rows) h = known_kept w row (filter p rows) (p row) h.0 (known_filter w p rows h.1)
 
