@@ -58,7 +58,7 @@ fn each_kind_comes_back(rt: HostRuntime) -> Result<(), Fail> {
         "21000000046c001900000012300001000000000000000231000200000078000000",
     ] {
         let bytes = hex::decode(alloc, text)?;
-        let doc = decode(alloc, bytes.as_slice(), bytes.len() as u32)?;
+        let doc = decode(alloc, bytes.as_slice(), 100)?;
         let mut out = Vec::new(alloc);
         encode(alloc, &doc, &mut out)?;
         assert_eq!(rt; out.as_slice(), bytes.as_slice(), "at {text}");
