@@ -20,13 +20,16 @@ KeepsId w = (update : Update) (doc : Document) (id : Id) (new : Document) → w.
 abbrev pub Routes : Words → (Id → ℕ) → List ℕ → Filter → Type 0
 Routes w place shards wanted = (row : Row) → w.id_in row.1 ≡ Some row.0 → w.matches wanted row.1 ≡ true → times (place row.0) shards ≡ 1
 
+-- where the item is for one document, what its filter matches stands at one shard
 abbrev pub HasOneShard : Words → (Id → ℕ) → Bool → Filter → Type 0
 HasOneShard w place many wanted = many ≡ false → (s : ℕ) × ((row : Row) → w.id_in row.1 ≡ Some row.0 → w.matches wanted row.1 ≡ true → place row.0 ≡ s)
 
+-- what holds of each item
 abbrev pub AllItems : {I : Type 0} → (I → Type 0) → List I → Type 0
 AllItems P [] = Unit {0}
 AllItems P (item ∷ items) = P item × AllItems P items
 
+-- each document and each filter is sent to the shards where what it is for may stand
 abbrev pub IsRouted : Words → (Id → ℕ) → List ℕ → Op → Type 0
 IsRouted w place shards (Insert ns docs) = IndicesRise (λ item. item.index) docs × GoOnce w place shards docs
 IsRouted w place shards (Find ns wanted down limit) = Routes w place shards wanted

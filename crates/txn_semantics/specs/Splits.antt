@@ -17,6 +17,7 @@ use Rattle.txn_semantics.specs.Found.{joined}
 use Rattle.txn_semantics.specs.Meaning.{Meaning, eval_by, reply_of, writes_of}
 use Rattle.txn_semantics.specs.Merge.{merge_by}
 
+-- the ids that stand at the shard
 abbrev pub here : (Id → ℕ) → ℕ → Id → Bool
 here place s id = nat_eq (place id) s
 
@@ -25,18 +26,22 @@ abbrev pub times : ℕ → List ℕ → ℕ
 times k [] = 0
 times k (s ∷ shards) = (if nat_eq k s then 1 else 0) + times k shards
 
+-- each row stands at a shard that is named once
 abbrev pub AreOnce : (Id → ℕ) → List ℕ → List Row → Type 0
 AreOnce place shards [] = Unit {0}
 AreOnce place shards (row ∷ rows) = (times (place row.0) shards ≡ 1) × AreOnce place shards rows
 
+-- the items' places in their command are past this one
 abbrev pub AreBehind : {I : Type 0} → (I → ℕ) → ℕ → List I → Type 0
 AreBehind index n [] = Unit {0}
 AreBehind index n (item ∷ items) = (n < index item) × AreBehind index n items
 
+-- the items' places in their command rise
 abbrev pub IndicesRise : {I : Type 0} → (I → ℕ) → List I → Type 0
 IndicesRise index [] = Unit {0}
 IndicesRise index (item ∷ items) = AreBehind index (index item) items × IndicesRise index items
 
+-- what holds of rows met and left, where nothing was refused
 abbrev pub OnDone : Doing → (Done → Type 0) → Type 0
 OnDone (Ok done) P = P done
 OnDone (Err e) P = Unit {0}
@@ -46,10 +51,12 @@ abbrev pub Along : {I : Type 0} → (I → List Row → Type 0) → (I → List 
 Along P step left [] rows = Unit {0}
 Along P step left (item ∷ items) rows = P item rows × OnDone (step item rows) (λ done. Along P step left items (left rows done.changed))
 
+-- the rows stand at the shard
 abbrev pub AreAt : (Id → ℕ) → ℕ → List Row → Type 0
 AreAt place s [] = Unit {0}
 AreAt place s (row ∷ rows) = (place row.0 ≡ s) × AreAt place s rows
 
+-- the rows stand at one shard
 abbrev pub AreAtOne : (Id → ℕ) → List Row → Type 0
 AreAtOne place rows = (s : ℕ) × AreAt place s rows
 
@@ -61,14 +68,17 @@ OneMeetsOne place many rows = many ≡ false → AreAtOne place rows
 abbrev pub err_cmp : OpErr → OpErr → Ordering
 err_cmp e f = ordering_then (nat_cmp e.index f.index) (id_cmp e.id f.id)
 
+-- the first of an error and of what may be another
 abbrev pub lesser : OpErr → Option OpErr → OpErr
 lesser e None = e
 lesser e (Some f) = if is_lt (err_cmp f e) then f else e
 
+-- the first of the shards' errors
 abbrev pub least_err : List Meaning → Option OpErr
 least_err [] = None
 least_err (m ∷ parts) = elim m [ Ok done ↦ least_err parts | Err e ↦ Some (lesser e (least_err parts)) ]
 
+-- what the shards replied that weren't refused
 abbrev pub replies : List Meaning → List OpReply
 replies [] = []
 replies (m ∷ parts) = elim m [ Ok done ↦ done.0 ∷ replies parts | Err e ↦ replies parts ]
@@ -77,27 +87,32 @@ replies (m ∷ parts) = elim m [ Ok done ↦ done.0 ∷ replies parts | Err e �
 abbrev pub outcome : Words → Op → List Meaning → Result OpReply OpErr
 outcome w op parts = elim (least_err parts) [ None ↦ Ok (merge_by w op (replies parts)) | Some e ↦ Err e ]
 
--- the part of an operation that goes to a shard
+-- the document belongs where its id passes the test
 abbrev pub goes : Words → (Id → Bool) → InsertItem → Bool
 goes w p item = elim (w.id_in item.doc) [ None ↦ false | Some id ↦ p id ]
 
+-- the part of an operation that goes to a shard
 abbrev pub part_of : Words → (Id → Bool) → Op → Op
 part_of w p (Insert ns docs) = Insert ns (filter (goes w p) docs)
 part_of w p (Find ns wanted down limit) = Find ns wanted down limit
 part_of w p (Update ns items) = Update ns items
 part_of w p (Delete ns items) = Delete ns items
 
+-- the id of what is put or taken away
 abbrev pub written_id : Write → Id
 written_id (Put ns id doc) = id
 written_id (Removed ns id) = id
 
+-- each document goes to a shard that is named once
 abbrev pub GoOnce : Words → (Id → ℕ) → List ℕ → List InsertItem → Type 0
 GoOnce w place shards [] = Unit {0}
 GoOnce w place shards (item ∷ items) = ((id : Id) → w.id_in item.doc ≡ Some id → times (place id) shards ≡ 1) × GoOnce w place shards items
 
+-- the rows that an item meets stand at shards that are named once, and at one shard where the item is for one document
 abbrev pub Meets : Words → (Id → ℕ) → List ℕ → Bool → List Row → Type 0
 Meets w place shards many rows = OneMeetsOne place many rows × AreOnce place shards rows
 
+-- what a statement must keep to, over these rows, to be told from its parts
 abbrev pub IsSplit : Words → (Id → ℕ) → List ℕ → Op → List Row → Type 0
 IsSplit w place shards (Insert ns docs) rows = IndicesRise (λ item. item.index) docs × GoOnce w place shards docs
 IsSplit w place shards (Find ns wanted down limit) rows = AreKnown w rows × AreOnce place shards (matching w wanted rows)
@@ -108,18 +123,23 @@ IsSplit w place shards (Delete ns items) rows = IndicesRise (λ item. item.index
 abbrev pub parts_of : Words → (Id → ℕ) → Op → List Row → ℕ → Meaning
 parts_of w place op rows s = eval_by w (part_of w (here place s) op) (at (here place s) rows)
 
+-- the writes of a shard are those whose ids pass the test
 abbrev pub AreWrites : (Id → Bool) → List Write → Meaning → Type 0
 AreWrites p writes (Ok m) = m.1 ≡ filter (λ write. p (written_id write)) writes
 AreWrites p writes (Err e) = ⊥
 
+-- each shard's writes are those of the whole that are placed there
 abbrev pub WritesSplit : Words → (Id → ℕ) → Op → List Row → Type 0
 WritesSplit w place op rows = (m : OpReply × List Write) → eval_by w op rows ≡ Ok m → (s : ℕ) → AreWrites (here place s) m.1 (parts_of w place op rows s)
 
+-- what is told of the whole is what is told of the shards' answers
 abbrev pub RepliesMerge : Words → (Id → ℕ) → List ℕ → Op → List Row → Type 0
 RepliesMerge w place shards op rows = reply_of (eval_by w op rows) ≡ outcome w op (map (parts_of w place op rows) shards)
 
+-- writes under their ids
 abbrev pub keyed : List Write → List (Id × Write)
 keyed writes = map (λ write. (written_id write, write)) writes
 
+-- the shards' writes, joined by id, are those of the whole
 abbrev pub WritesJoin : Words → (Id → ℕ) → List ℕ → Op → List Row → Type 0
 WritesJoin w place shards op rows = (m : OpReply × List Write) → eval_by w op rows ≡ Ok m → joined [] (map (λ s. keyed (writes_of (parts_of w place op rows s))) shards) ≡ keyed m.1
