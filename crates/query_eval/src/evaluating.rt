@@ -150,8 +150,8 @@ fn delete_item(item: &DeleteItem, rows: &mut [(Id, Held<'_>)]) -> Result<Met, Ev
     ensures { Acts no_content without (delete_step words item.now (rows_in rows.old)) rows.old rows.new result }
 {
     let mut met = Met { n: 0, changed: 0 };
-    for row in rows.iter_mut() {
-        if !drop_row(&item.filter, row) {
+    for held in rows.iter_mut() {
+        if !drop_row(&item.filter, held) {
             continue;
         }
         met.n += 1;
