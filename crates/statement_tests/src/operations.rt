@@ -1,6 +1,7 @@
 ghost use Rattle.std.specs.Prelude.{IfOk, IsSome};
 ghost use Rattle.txn_types.specs.Ids.{id_in};
 
+use crate::values::{bin, text};
 use bson_core::{Doc, Name, Value};
 use sqlite_items::Items;
 use std::alloc::{AllocError, Global};
@@ -41,6 +42,44 @@ fn namespaces_and_ids(rt: HostRuntime) -> Result<(), Fail> {
     assert!(rt; Id::Num(-1).copy(alloc)?.compare(&int) == Ordering::Less);
     assert!(rt; matches!(Id::of(alloc, &Value::Null), Err(IdErr::BadId)));
     assert!(rt; TAG.copy() == TAG);
+    Ok(())
+}
+
+#[test]
+fn ids_in_order(rt: HostRuntime) -> Result<(), Fail> {
+    let alloc = rt.alloc();
+    // by kind; numbers, truth values and moments by value, binaries by length, subtype and bytes, others by bytes
+    let mut values = Vec::new(alloc);
+    values.push(Value::Int(-7))?;
+    values.push(Value::Long(9))?;
+    values.push(text(alloc, "")?)?;
+    values.push(text(alloc, "b")?)?;
+    values.push(text(alloc, "ba")?)?;
+    values.push(bin(alloc, 4, b"z".as_slice())?)?;
+    values.push(bin(alloc, 5, b"a".as_slice())?)?;
+    values.push(bin(alloc, 0, b"aa".as_slice())?)?;
+    values.push(Value::Oid([0; 12]))?;
+    values.push(Value::Oid([1; 12]))?;
+    values.push(Value::Bool(false))?;
+    values.push(Value::Bool(true))?;
+    values.push(Value::Date(-1))?;
+    values.push(Value::Date(0))?;
+    for i in 0..values.len() {
+        for j in 0..values.len() {
+            let left = Id::of(alloc, &values[i])?;
+            let right = Id::of(alloc, &values[j])?;
+            assert!(rt;
+                left.copy(alloc)?.compare(&right) == i.cmp(&j),
+                "of {i} and {j}"
+            );
+        }
+    }
+    for value in [Value::Null, Value::Stamp(1)] {
+        assert!(rt; matches!(Id::of(alloc, &value), Err(IdErr::BadId)));
+    }
+    let list = Value::List(Items::from_vec(Vec::new(alloc)));
+    assert!(rt; matches!(Id::of(alloc, &list), Err(IdErr::BadId)));
+    assert!(rt; matches!(Id::of(alloc, &Value::Doc(five(alloc)?)), Err(IdErr::BadId)));
     Ok(())
 }
 
