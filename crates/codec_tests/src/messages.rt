@@ -171,7 +171,7 @@ fn other_messages_are_refused_at_their_first_fault(rt: HostRuntime) -> Result<()
     Ok(())
 }
 
-/// Request 7 with moreToCome, an empty body, and the sequence `a` of one empty document.
+/// A message with requestID 7 and moreToCome, an empty body, and the sequence `a` of one empty document.
 const SECTIONS: &str =
     "260000000700000000000000dd07000002000000000500000000010b00000061000500000000";
 
