@@ -49,21 +49,21 @@ impl<T: Drop> From<AllocFailed<T>> for NsErr {
     }
 }
 
-/// A namespace: a database name, a full stop and a collection name. Contracts see its bytes.
+/// A namespace: a database name, a full stop and a collection name, in UTF-8. Contracts see its bytes.
 #[derive(Debug, Drop)]
 pub struct Ns {
-    bytes: Vec<u8>,
+    text: String,
 }
 
 impl Model for Ns {
-    ghost use Rattle.std.specs.Prelude.{List, ℕ};
+    ghost use Rattle.std.specs.Prelude.{List, ℕ, string_bytes};
     ghost use Rattle.txn_types.specs.Names.{IsNamespace};
 
     ghost Value = { List ℕ };
 
-    ghost view = { λ n. n.bytes.items };
+    ghost view = { λ n. string_bytes n.text };
 
-    ghost invariant = { λ n. IsNamespace n.bytes.items };
+    ghost invariant = { λ n. IsNamespace (string_bytes n.text) };
 }
 
 /// Whether the byte may stand in a name.
@@ -126,24 +126,31 @@ impl Ns {
         if !is_collection(collection) {
             return Err(NsErr::Collection);
         }
-        let mut bytes = Vec::from_slice(alloc, database.as_bytes())?;
-        bytes.push(b'.')?;
-        bytes.extend_from_slice(collection.as_bytes())?;
-        Ok(Ns { bytes })
+        let mut text = String::from_str(alloc, database)?;
+        text.push('.')?;
+        text.push_str(collection)?;
+        Ok(Ns { text })
     }
 
     pub fn as_slice(&self) -> &[u8]
         ensures bytes { result.now ≡ self.now }
         ensures namespace { IsNamespace self.now }
     {
-        self.bytes.as_slice()
+        self.text.as_bytes()
+    }
+
+    pub fn as_str(&self) -> &str
+        ensures bytes { result.now ≡ self.now }
+        ensures namespace { IsNamespace self.now }
+    {
+        self.text.as_str()
     }
 
     pub fn copy(&self, alloc: Global) -> Result<Ns, AllocError>
         ensures { IfOk result (λ n. n ≡ self.now) }
     {
         Ok(Ns {
-            bytes: Vec::from_slice(alloc, self.bytes.as_slice())?,
+            text: String::from_str(alloc, self.text.as_str())?,
         })
     }
 }
