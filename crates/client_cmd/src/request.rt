@@ -1,0 +1,13 @@
+ghost use Rattle.std.specs.Prelude.{IfOk};
+
+use std::alloc::{AllocError, Global};
+use txn_types::Op;
+
+/// What a client asks.
+#[derive(Debug, Drop)]
+pub enum Request {
+    /// Whether the server is there.
+    Ping,
+    /// An operation on a collection, which is a transaction by itself.
+    Statement { op: Op },
+}

@@ -1,0 +1,2 @@
+//! The rows of each collection, in memory.
+#![tactic(auto)]
