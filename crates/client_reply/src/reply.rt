@@ -4,6 +4,8 @@ use txn_types::{Docs, Ns, OpErr};
 /// Why a request is refused before its statement is evaluated, or though it was.
 #[derive(Debug, Drop)]
 pub enum Refusal {
+    /// No serial is left for a transaction to draw. Told as code 20, IllegalOperation, `no serial left`.
+    Spent,
     /// The answer has more than 16,000,000 bytes of documents.
     ReplyTooLarge,
     /// There is no such command.

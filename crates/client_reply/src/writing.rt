@@ -1,16 +1,28 @@
 ghost use Rattle.std.specs.Prelude.{◌≡◌, IfOk};
 ghost use Rattle.client_reply.specs.Replies.{FitsReply, reply_frame};
 
+use crate::documents::answer;
+use crate::fields::put_times;
 use crate::reply::Reply;
 use op_msg::Frame;
+use sqlite_items::Items;
 use std::alloc::{AllocError, Global};
 use txn_types::Ts;
 
 /// The message that tells the reply.
+#[tactic(auto, unfolding(crate::specs::Replies::reply_frame))]
 pub fn write_reply(alloc: Global, reply: &Reply, to: i32, time: Ts) -> Result<Frame, AllocError>
     requires { FitsReply reply.now }
     ensures { IfOk result (λ f. f ≡ reply_frame reply.now to time) }
 {
-    let _ = (alloc, reply, to, time);
-    Err(AllocError)
+    let mut fields = answer(alloc, reply)?;
+    put_times(alloc, &mut fields, time)?;
+    Ok(Frame {
+        request_id: 0,
+        response_to: to,
+        legacy: false,
+        more: false,
+        body: Items::from_vec(fields),
+        seqs: Items::new(alloc),
+    })
 }

@@ -63,7 +63,7 @@ fn list_in(alloc: Global, operator: &Name, value: &Value) -> Result<List, CrudEr
 }
 
 /// The truth value that is the operator's value.
-fn flag_in(alloc: Global, operator: &Name, value: &Value) -> Result<bool, CrudErr>
+pub fn flag_in(alloc: Global, operator: &Name, value: &Value) -> Result<bool, CrudErr>
     ensures { Gives (λ b. b) result (flag_in operator.now (out-Value value.now)) }
 {
     match value {
@@ -144,7 +144,7 @@ fn read_field(alloc: Global, name: &Name, value: &Value) -> Result<Filter, CrudE
 
 /// The filter that a document in the list of that name is.
 #[cycle(filter)]
-fn read_inner(alloc: Global, name: &Name, value: &Value) -> Result<Filter, CrudErr>
+pub fn read_inner(alloc: Global, name: &Name, value: &Value) -> Result<Filter, CrudErr>
     ensures { Gives (λ f. f) result (inner_by filter_of name.now (out-Value value.now)) }
 {
     match value {

@@ -39,7 +39,12 @@ fn value_for(alloc: Global, kind: UpdateKind, name: &Name, value: &Value) -> Res
 }
 
 /// The operation on the field of that name.
-fn read_op(alloc: Global, kind: UpdateKind, name: &Name, value: &Value) -> Result<UpdateOp, CrudErr>
+fn read_field_op(
+    alloc: Global,
+    kind: UpdateKind,
+    name: &Name,
+    value: &Value,
+) -> Result<UpdateOp, CrudErr>
     ensures { Gives (λ o. o) result (field_op kind (name.now, value.now)) }
 {
     if has_full_stop(name.as_str()) {
@@ -65,7 +70,7 @@ fn and_ops(
     ensures { Gives (λ all. all.items) result (with_front ops.items (each (field_op kind) fields.now)) }
 {
     for (name, value) in fields {
-        ops.push(read_op(alloc, kind, name, value)?)?;
+        ops.push(read_field_op(alloc, kind, name, value)?)?;
     }
     Ok(ops)
 }

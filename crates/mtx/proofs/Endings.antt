@@ -9,17 +9,17 @@ use Rattle.outcomes.specs.Told.{Told}
 use Rattle.outside_core.specs.Bytes.{Went, WentInPart}
 use Rattle.outside_core.proofs.Steps.{went_more}
 use Rattle.txn_semantics.specs.declared.commits.Entry.{Entry}
-use Rattle.mtx.specs.declared.input.End.{End}
-use Rattle.mtx.specs.declared.input.End.TheVariants.{Whole, LongLine, ManyLines}
-use Rattle.mtx.specs.declared.server.Server.{Server}
-use Rattle.mtx.specs.Input.{BeginsLong, IsInput}
-use Rattle.mtx.specs.Lines.{Lacks, lines_of, Asked}
-use Rattle.mtx.specs.Serving.{State, first_state, served_all}
-use Rattle.mtx.specs.Text.{answers, dump}
-use Rattle.mtx.specs.Play.{AllAsk, bodies, behind, IsPlayable, FirstBadLine, IsOverrun, Played, AnsweredFirst, CutShort}
+use Rattle.play_script.specs.declared.input.End.{End}
+use Rattle.play_script.specs.declared.input.End.TheVariants.{Whole, LongLine, ManyLines}
+use Rattle.play_run.specs.declared.desk.Desk.{Desk}
+use Rattle.play_script.specs.Input.{BeginsLong, IsInput}
+use Rattle.play_script.specs.Lines.{Lacks, lines_of, Asked}
+use Rattle.play_run.specs.Serving.{DeskState, first_state, served_all, answers}
+use Rattle.play_run.specs.Text.{dump}
+use Rattle.mtx.specs.Play.{AllAsk, behind, IsPlayable, FirstBadLine, IsOverrun, Played, AnsweredFirst, CutShort}
 use Rattle.mtx.specs.Playing.{PlayedAll, PlayedUpTo, PlayedInPart}
-use Rattle.mtx.proofs.LineParts.{lines_of-ended, lines_of-last, lines_of-append}
-use Rattle.mtx.proofs.Progress.{all_ask-length, length-bodies, there_at}
+use Rattle.play_script.proofs.LineParts.{lines_of-ended, lines_of-last, lines_of-append}
+use Rattle.mtx.proofs.Progress.{all_ask-length, there_at}
 use Rattle.mtx.proofs.Rights.{right_throughout}
 
 -- what is told of a sink that took these bytes
@@ -107,12 +107,12 @@ cut_text input bytes end held held' is p before =
       right = right_throughout p.asked;
     }
 
-pub few_lines : (bytes : List ℕ) (lines : ℕ) (server : Server) (held held' : Option (List ℕ)) → PlayedAll bytes lines server held held' → lines ≡ length (lines_of bytes)
-few_lines bytes lines server held held' p = omega (arith, p.count, all_ask-length (lines_of bytes) p.asked p.asks)
+pub few_lines : (bytes : List ℕ) (lines : ℕ) (desk : Desk) (held held' : Option (List ℕ)) → PlayedAll bytes lines desk held held' → lines ≡ length (lines_of bytes)
+few_lines bytes lines desk held held' p = omega (arith, p.count, all_ask-length (lines_of bytes) p.asked p.asks)
 
 -- all the lines that were read were answered
-pub all_text : (n : ℕ) (input bytes : List ℕ) (end : End) (lines : ℕ) (server : Server) (held held' : Option (List ℕ)) → IsInput input bytes end → (p : PlayedAll bytes lines server held held') → n ≡ lines → (before : List ℕ) → AnsweredFirst n input before (before ++ answers first_state p.asked)
-all_text n input bytes end lines server held held' is p same before =
+pub all_text : (n : ℕ) (input bytes : List ℕ) (end : End) (lines : ℕ) (desk : Desk) (held held' : Option (List ℕ)) → IsInput input bytes end → (p : PlayedAll bytes lines desk held held') → n ≡ lines → (before : List ℕ) → AnsweredFirst n input before (before ++ answers first_state p.asked)
+all_text n input bytes end lines desk held held' is p same before =
     let parts = input_parts input bytes end is in
     record {
       asked = p.asked;
@@ -157,11 +157,11 @@ long_line text l = elim (cut_at l.behind) [
       (l.long ++ cut.0, lines_of cut.1, ap lines_of (l.parts ∙ ap (λ (t : List ℕ). l.long ++ t) cut.2 ∙ sym (append_assoc l.long cut.0 (10 ∷ cut.1))) ∙ lines_of-ended (l.long ++ cut.0) cut.1 whole, omega (arith, l.many, length-append l.long cut.0))
 ]
 
-pub long_is_bad : (input bytes : List ℕ) (lines : ℕ) (server : Server) (held held' : Option (List ℕ)) → IsInput input bytes LongLine → PlayedAll bytes lines server held held' → FirstBadLine (lines + 1) input
-long_is_bad input bytes lines server held held' is p =
+pub long_is_bad : (input bytes : List ℕ) (lines : ℕ) (desk : Desk) (held held' : Option (List ℕ)) → IsInput input bytes LongLine → PlayedAll bytes lines desk held held' → FirstBadLine (lines + 1) input
+long_is_bad input bytes lines desk held held' is p =
     let more : List (List ℕ) = lines_of is.0 in
     let split : lines_of input ≡ lines_of bytes ++ more = ap lines_of is.1 ∙ lines_of-append bytes is.0 is.2 in
-    let n : lines ≡ length (lines_of bytes) = few_lines bytes lines server held held' p in
+    let n : lines ≡ length (lines_of bytes) = few_lines bytes lines desk held held' p in
     let long = long_line is.0 is.4 in
     let is-at : length (lines_of bytes) ≡ length p.asked = all_ask-length (lines_of bytes) p.asked p.asks in
     record {
@@ -174,8 +174,8 @@ long_is_bad input bytes lines server held held' is p =
       bad = λ a asks. omega (arith, asks.short, long.3);
     }
 
-pub many_is_overrun : (input bytes : List ℕ) (lines : ℕ) (server : Server) (held held' : Option (List ℕ)) → IsInput input bytes ManyLines → PlayedAll bytes lines server held held' → IsOverrun input
-many_is_overrun input bytes lines server held held' is p =
+pub many_is_overrun : (input bytes : List ℕ) (lines : ℕ) (desk : Desk) (held held' : Option (List ℕ)) → IsInput input bytes ManyLines → PlayedAll bytes lines desk held held' → IsOverrun input
+many_is_overrun input bytes lines desk held held' is p =
     let more : List (List ℕ) = lines_of is.0 in
     let split : lines_of input ≡ lines_of bytes ++ more = ap lines_of is.1 ∙ lines_of-append bytes is.0 is.2 in
     let next = some_line is.0 is.4 in
@@ -186,22 +186,22 @@ many_is_overrun input bytes lines server held held' is p =
       many = omega (arith, is.3, ap length split, length-append (lines_of bytes) (lines_of is.0), ap length next.2);
     }
 
--- the commits of the state behind all requests
-entries_are : (server : Server) (asked : List Asked) (entries : List Entry) → entries ≡ (served_all first_state (bodies asked)).entries → entries ≡ (behind (length asked) asked).entries
-entries_are server asked entries same =
-    same ∙ ap (λ (s : State). s.entries) (ap (λ l. served_all first_state l) (sym (take_all (length asked) (bodies asked) (omega (arith, length-bodies asked)))))
+-- the commits of the state behind all lines
+entries_are : (asked : List Asked) (entries : List Entry) → entries ≡ (served_all first_state asked).server.entries → entries ≡ (behind (length asked) asked).server.entries
+entries_are asked entries same =
+    same ∙ ap (λ (d : DeskState). d.server.entries) (ap (λ l. served_all first_state l) (sym (take_all (length asked) asked (omega arith))))
 
 -- the replies to all lines and the list of commits
-pub played_text : (input bytes : List ℕ) (lines : ℕ) (server : Server) (held held1 held2 : Option (List ℕ)) → IsInput input bytes Whole → PlayedAll bytes lines server held held1 → Went held1 held2 (dump server.entries.items)
+pub played_text : (input bytes : List ℕ) (lines : ℕ) (desk : Desk) (held held1 held2 : Option (List ℕ)) → IsInput input bytes Whole → PlayedAll bytes lines desk held held1 → Went held1 held2 (dump desk.server.entries.items)
     → Told held (λ before. Told held2 (λ after. Played input before after))
-played_text input bytes lines server held held1 held2 is p w =
-    let entries : server.entries.items ≡ (behind (length p.asked) p.asked).entries = entries_are server p.asked server.entries.items p.state.entries in
+played_text input bytes lines desk held held1 held2 is p w =
+    let entries : desk.server.entries.items ≡ (behind (length p.asked) p.asked).server.entries = entries_are p.asked desk.server.entries.items p.state.server.entries in
     let all = answers first_state p.asked in
-    told_went held held2 (λ before after. Played input before after) (all ++ dump server.entries.items) (went_more held held1 held2 all (dump server.entries.items) p.text w)
+    told_went held held2 (λ before after. Played input before after) (all ++ dump desk.server.entries.items) (went_more held held1 held2 all (dump desk.server.entries.items) p.text w)
     (λ before. record {
       asked = p.asked;
       lines = subst (λ (b : List ℕ). AllAsk (lines_of b) p.asked) is.0 p.asks;
-      text = sym (append_assoc before all (dump server.entries.items)) ∙ ap (λ (es : List Entry). (before ++ all) ++ dump es) entries;
+      text = sym (append_assoc before all (dump desk.server.entries.items)) ∙ ap (λ (es : List Entry). (before ++ all) ++ dump es) entries;
       right = right_throughout p.asked;
     })
 
@@ -209,12 +209,12 @@ cut_whole : (before all front rest whole : List ℕ) → front ++ rest ≡ whole
 cut_whole before all front rest whole is = ap (λ (t : List ℕ). t ++ rest) (sym (append_assoc before all front)) ∙ append_assoc (before ++ all) front rest ∙ ap (λ (t : List ℕ). (before ++ all) ++ t) is
 
 -- the replies to all lines and a front of the list of commits
-pub cut_dump : (input bytes : List ℕ) (lines : ℕ) (server : Server) (held held1 held2 : Option (List ℕ)) → IsInput input bytes Whole → PlayedAll bytes lines server held held1 → WentInPart held1 held2 (dump server.entries.items)
+pub cut_dump : (input bytes : List ℕ) (lines : ℕ) (desk : Desk) (held held1 held2 : Option (List ℕ)) → IsInput input bytes Whole → PlayedAll bytes lines desk held held1 → WentInPart held1 held2 (dump desk.server.entries.items)
     → Told held (λ before. Told held2 (λ after. CutShort input before after))
-cut_dump input bytes lines server held held1 held2 is p w =
-    let entries : server.entries.items ≡ (behind (length p.asked) p.asked).entries = entries_are server p.asked server.entries.items p.state.entries in
+cut_dump input bytes lines desk held held1 held2 is p w =
+    let entries : desk.server.entries.items ≡ (behind (length p.asked) p.asked).server.entries = entries_are p.asked desk.server.entries.items p.state.server.entries in
     let all = answers first_state p.asked in
-    let whole = dump server.entries.items in
+    let whole = dump desk.server.entries.items in
     let asks : AllAsk (lines_of input) p.asked = subst (λ (b : List ℕ). AllAsk (lines_of b) p.asked) is.0 p.asks in
     told_went held held2 (λ before after. CutShort input before after) (all ++ take w.0 whole) (went_more held held1 held2 all (take w.0 whole) p.text w.2)
     (λ before. record {
@@ -246,38 +246,38 @@ cut_told left bytes end held held' told p =
     told_then left (λ input. IsInput input bytes end) (λ input. Told held (λ before. Told held' (λ after. CutShort input before after))) told
     (λ input is. told_went held held' (λ before after. CutShort input before after) (take p.text.0 (answers first_state p.asked)) p.text.2 (λ before. cut_text input bytes end held held' is p before))
 
-pub long_judged : (left : Option (List ℕ)) (bytes : List ℕ) (lines : ℕ) (server : Server) (held held' : Option (List ℕ)) → Told left (λ input. IsInput input bytes LongLine) → PlayedAll bytes lines server held held'
+pub long_judged : (left : Option (List ℕ)) (bytes : List ℕ) (lines : ℕ) (desk : Desk) (held held' : Option (List ℕ)) → Told left (λ input. IsInput input bytes LongLine) → PlayedAll bytes lines desk held held'
     → Told left (λ input. FirstBadLine (lines + 1) input ⊎ ⊥)
-long_judged left bytes lines server held held' told p = told_then left (λ input. IsInput input bytes LongLine) (λ input. FirstBadLine (lines + 1) input ⊎ ⊥) told (λ input is. inl (long_is_bad input bytes lines server held held' is p))
+long_judged left bytes lines desk held held' told p = told_then left (λ input. IsInput input bytes LongLine) (λ input. FirstBadLine (lines + 1) input ⊎ ⊥) told (λ input is. inl (long_is_bad input bytes lines desk held held' is p))
 
-pub long_told : (left : Option (List ℕ)) (bytes : List ℕ) (lines : ℕ) (server : Server) (held held' : Option (List ℕ)) → Told left (λ input. IsInput input bytes LongLine) → PlayedAll bytes lines server held held'
+pub long_told : (left : Option (List ℕ)) (bytes : List ℕ) (lines : ℕ) (desk : Desk) (held held' : Option (List ℕ)) → Told left (λ input. IsInput input bytes LongLine) → PlayedAll bytes lines desk held held'
     → Told left (λ input. Told held (λ before. Told held' (λ after. AnsweredFirst (lines + 1 - 1) input before after)))
-long_told left bytes lines server held held' told p =
+long_told left bytes lines desk held held' told p =
     told_then left (λ input. IsInput input bytes LongLine) (λ input. Told held (λ before. Told held' (λ after. AnsweredFirst (lines + 1 - 1) input before after))) told
-    (λ input is. told_went held held' (λ before after. AnsweredFirst (lines + 1 - 1) input before after) (answers first_state p.asked) p.text (λ before. all_text (lines + 1 - 1) input bytes LongLine lines server held held' is p (omega arith) before))
+    (λ input is. told_went held held' (λ before after. AnsweredFirst (lines + 1 - 1) input before after) (answers first_state p.asked) p.text (λ before. all_text (lines + 1 - 1) input bytes LongLine lines desk held held' is p (omega arith) before))
 
-pub many_judged : (left : Option (List ℕ)) (bytes : List ℕ) (lines : ℕ) (server : Server) (held held' : Option (List ℕ)) → Told left (λ input. IsInput input bytes ManyLines) → PlayedAll bytes lines server held held'
+pub many_judged : (left : Option (List ℕ)) (bytes : List ℕ) (lines : ℕ) (desk : Desk) (held held' : Option (List ℕ)) → Told left (λ input. IsInput input bytes ManyLines) → PlayedAll bytes lines desk held held'
     → Told left (λ input. IsOverrun input ⊎ ⊥)
-many_judged left bytes lines server held held' told p = told_then left (λ input. IsInput input bytes ManyLines) (λ input. IsOverrun input ⊎ ⊥) told (λ input is. inl (many_is_overrun input bytes lines server held held' is p))
+many_judged left bytes lines desk held held' told p = told_then left (λ input. IsInput input bytes ManyLines) (λ input. IsOverrun input ⊎ ⊥) told (λ input is. inl (many_is_overrun input bytes lines desk held held' is p))
 
-pub many_told : (left : Option (List ℕ)) (bytes : List ℕ) (lines : ℕ) (server : Server) (held held' : Option (List ℕ)) → Told left (λ input. IsInput input bytes ManyLines) → PlayedAll bytes lines server held held'
+pub many_told : (left : Option (List ℕ)) (bytes : List ℕ) (lines : ℕ) (desk : Desk) (held held' : Option (List ℕ)) → Told left (λ input. IsInput input bytes ManyLines) → PlayedAll bytes lines desk held held'
     → Told left (λ input. Told held (λ before. Told held' (λ after. AnsweredFirst 10000000 input before after)))
-many_told left bytes lines server held held' told p =
+many_told left bytes lines desk held held' told p =
     told_then left (λ input. IsInput input bytes ManyLines) (λ input. Told held (λ before. Told held' (λ after. AnsweredFirst 10000000 input before after))) told
-    (λ input is. told_went held held' (λ before after. AnsweredFirst 10000000 input before after) (answers first_state p.asked) p.text (λ before. all_text 10000000 input bytes ManyLines lines server held held' is p (sym is.3 ∙ sym (few_lines bytes lines server held held' p)) before))
+    (λ input is. told_went held held' (λ before after. AnsweredFirst 10000000 input before after) (answers first_state p.asked) p.text (λ before. all_text 10000000 input bytes ManyLines lines desk held held' is p (sym is.3 ∙ sym (few_lines bytes lines desk held held' p)) before))
 
-pub whole_judged : (left : Option (List ℕ)) (bytes : List ℕ) (lines : ℕ) (server : Server) (held held' : Option (List ℕ)) → Told left (λ input. IsInput input bytes Whole) → PlayedAll bytes lines server held held'
+pub whole_judged : (left : Option (List ℕ)) (bytes : List ℕ) (lines : ℕ) (desk : Desk) (held held' : Option (List ℕ)) → Told left (λ input. IsInput input bytes Whole) → PlayedAll bytes lines desk held held'
     → Told left (λ input. IsPlayable input ⊎ ⊥)
-whole_judged left bytes lines server held held' told p =
+whole_judged left bytes lines desk held held' told p =
     told_then left (λ input. IsInput input bytes Whole) (λ input. IsPlayable input ⊎ ⊥) told
     (λ input is. inl (record { asked = p.asked; lines = subst (λ (b : List ℕ). AllAsk (lines_of b) p.asked) is.0 p.asks; few = subst (λ (b : List ℕ). length (lines_of b) ≤ 10000000) is.0 is.1 }))
 
-pub whole_told : (left : Option (List ℕ)) (bytes : List ℕ) (lines : ℕ) (server : Server) (held held1 held2 : Option (List ℕ)) → Told left (λ input. IsInput input bytes Whole) → PlayedAll bytes lines server held held1 → Went held1 held2 (dump server.entries.items)
+pub whole_told : (left : Option (List ℕ)) (bytes : List ℕ) (lines : ℕ) (desk : Desk) (held held1 held2 : Option (List ℕ)) → Told left (λ input. IsInput input bytes Whole) → PlayedAll bytes lines desk held held1 → Went held1 held2 (dump desk.server.entries.items)
     → Told left (λ input. Told held (λ before. Told held2 (λ after. Played input before after)))
-whole_told left bytes lines server held held1 held2 told p w =
-    told_then left (λ input. IsInput input bytes Whole) (λ input. Told held (λ before. Told held2 (λ after. Played input before after))) told (λ input is. played_text input bytes lines server held held1 held2 is p w)
+whole_told left bytes lines desk held held1 held2 told p w =
+    told_then left (λ input. IsInput input bytes Whole) (λ input. Told held (λ before. Told held2 (λ after. Played input before after))) told (λ input is. played_text input bytes lines desk held held1 held2 is p w)
 
-pub dump_told : (left : Option (List ℕ)) (bytes : List ℕ) (lines : ℕ) (server : Server) (held held1 held2 : Option (List ℕ)) → Told left (λ input. IsInput input bytes Whole) → PlayedAll bytes lines server held held1 → WentInPart held1 held2 (dump server.entries.items)
+pub dump_told : (left : Option (List ℕ)) (bytes : List ℕ) (lines : ℕ) (desk : Desk) (held held1 held2 : Option (List ℕ)) → Told left (λ input. IsInput input bytes Whole) → PlayedAll bytes lines desk held held1 → WentInPart held1 held2 (dump desk.server.entries.items)
     → Told left (λ input. Told held (λ before. Told held2 (λ after. CutShort input before after)))
-dump_told left bytes lines server held held1 held2 told p w =
-    told_then left (λ input. IsInput input bytes Whole) (λ input. Told held (λ before. Told held2 (λ after. CutShort input before after))) told (λ input is. cut_dump input bytes lines server held held1 held2 is p w)
+dump_told left bytes lines desk held held1 held2 told p w =
+    told_then left (λ input. IsInput input bytes Whole) (λ input. Told held (λ before. Told held2 (λ after. CutShort input before after))) told (λ input is. cut_dump input bytes lines desk held held1 held2 is p w)

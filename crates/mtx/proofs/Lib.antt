@@ -1,15 +1,3 @@
-pub mod Good
-pub mod Once
-pub mod Tags
-pub mod Next
-pub mod Kept
-pub mod Judged
-pub mod LineParts
-pub mod LineCuts
-pub mod Counting
-pub mod Standings
-pub mod Holding
-pub mod Refusing
 pub mod Progress
 pub mod Rights
 pub mod Endings

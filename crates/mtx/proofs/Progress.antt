@@ -1,35 +1,31 @@
 -- Playing lines one after the other: what holds behind each.
-use Rattle.std.proofs.Common.{◌≡◌, ℕ, suc, ◌≤◌, ◌<◌, ◌+◌, ◌-◌, List, [], ◌∷◌, ◌++◌, length, take, Option, Some, refl, sym, ap, subst, ◌∙◌, append_assoc, arith, length-append, get_or, inl, inr}
+use Rattle.std.proofs.Common.{◌≡◌, ℕ, suc, ◌<◌, ◌+◌, ◌-◌, List, [], ◌∷◌, ◌++◌, length, take, Option, Some, refl, sym, ap, subst, ◌∙◌, append_assoc, arith, length-append, get_or, inl, inr}
 use Rattle.std.specs.Prelude.{slice_get}
 use Rattle.std.proofs.lemmas.List.{append-nil, take_at, get_or-append_right}
 use Rattle.std.proofs.lemmas.Option.{slice_get-get_or}
 use Rattle.std.proofs.Math.Seq.{take-length, take-append-add}
-use Rattle.bson_core.specs.Fields.{Document}
-use Rattle.op_msg.specs.Message.{message}
-use Rattle.op_msg.specs.declared.frame.Frame.{Frame}
 use Rattle.outside_core.specs.Bytes.{Went, WentInPart}
 use Rattle.outside_core.proofs.Steps.{went_none, went_more}
-use Rattle.mtx.specs.declared.server.Server.{Server}
-use Rattle.mtx.specs.Lines.{lines_of, Asked, Asks}
-use Rattle.mtx.specs.Serving.{State, first_state, served, served_all}
-use Rattle.mtx.specs.Standing.{state_of, StandsAt, HasInserted}
-use Rattle.mtx.specs.Text.{reply_line, answer, answers}
-use Rattle.mtx.specs.Play.{AllAsk, IsBad, bodies}
+use Rattle.play_script.specs.Lines.{lines_of, Asked, Asks, IsBad}
+use Rattle.play_run.specs.declared.desk.Desk.{Desk}
+use Rattle.play_run.specs.Serving.{DeskState, first_state, served, served_all, answer, answers}
+use Rattle.play_run.specs.Standing.{desk_of, DeskStandsAt}
+use Rattle.play_run.proofs.Alike.{answer_stands, served_stands}
+use Rattle.mtx.specs.Play.{AllAsk}
 use Rattle.mtx.specs.OneLine.{AnsweredLine, AnsweredInPart}
 use Rattle.mtx.specs.Playing.{PlayedAll, PlayedUpTo, PlayedInPart}
-use Rattle.mtx.proofs.Standings.{reply_stands, served_stands, has_inserted, has_inserted_at, serial_bound}
 
 gone : (n m : ℕ) → m ≡ n → n - m ≡ 0
 gone n m is = omega arith
 
 -- the lines before the rest were answered, so many of them
-pub record Progress (input rest : List ℕ) (lines : ℕ) (server : Server) (held held' : Option (List ℕ)) : Type 0 where
+pub record Progress (input rest : List ℕ) (lines : ℕ) (desk : Desk) (held held' : Option (List ℕ)) : Type 0 where
   pub before : List (List ℕ)
   pub asked : List Asked
   pub asks : AllAsk before asked
   pub parts : lines_of input ≡ before ++ lines_of rest
   pub count : lines ≡ length asked
-  pub state : StandsAt server (served_all first_state (bodies asked))
+  pub state : DeskStandsAt desk (served_all first_state asked)
   pub text : Went held held' (answers first_state asked)
 
 pub all_ask-push : (lines : List (List ℕ)) (asked : List Asked) (line : List ℕ) (a : Asked) → AllAsk lines asked → Asks line a → AllAsk (lines ++ line ∷ []) (asked ++ a ∷ [])
@@ -44,36 +40,24 @@ all_ask-length [] (b ∷ asked) all = absurd all
 all_ask-length (l ∷ lines) [] all = absurd all
 all_ask-length (l ∷ lines) (b ∷ asked) all = ap (λ (n : ℕ). suc n) (all_ask-length lines asked all.1)
 
-pub served_all-push : (s : State) (bs : List Document) (b : Document) → served_all s (bs ++ b ∷ []) ≡ served (served_all s bs) b
+pub served_all-push : (s : DeskState) (bs : List Asked) (b : Asked) → served_all s (bs ++ b ∷ []) ≡ served (served_all s bs) b
 served_all-push s [] b = refl
 served_all-push s (c ∷ bs) b = served_all-push (served s c) bs b
 
-pub bodies-push : (asked : List Asked) (a : Asked) → bodies (asked ++ a ∷ []) ≡ bodies asked ++ a.request.body ∷ []
-bodies-push [] a = refl
-bodies-push (b ∷ asked) a = ap (λ (l : List Document). b.request.body ∷ l) (bodies-push asked a)
-
-pub length-bodies : (asked : List Asked) → length (bodies asked) ≡ length asked
-length-bodies [] = refl
-length-bodies (a ∷ asked) = ap (λ (n : ℕ). suc n) (length-bodies asked)
-
-pub answers-push : (s : State) (asked : List Asked) (a : Asked) → answers s (asked ++ a ∷ []) ≡ answers s asked ++ answer (served_all s (bodies asked)) a
+pub answers-push : (s : DeskState) (asked : List Asked) (a : Asked) → answers s (asked ++ a ∷ []) ≡ answers s asked ++ answer (served_all s asked) a
 answers-push s [] a = append-nil (answer s a)
 answers-push s (b ∷ asked) a =
-    ap (λ (t : List ℕ). answer s b ++ t) (answers-push (served s b.request.body) asked a)
-    ∙ sym (append_assoc (answer s b) (answers (served s b.request.body) asked) (answer (served_all (served s b.request.body) (bodies asked)) a))
+    ap (λ (t : List ℕ). answer s b ++ t) (answers-push (served s b) asked a)
+    ∙ sym (append_assoc (answer s b) (answers (served s b) asked) (answer (served_all (served s b) asked) a))
 
-pub progress_none : (input : List ℕ) (server : Server) (held : Option (List ℕ)) → StandsAt server first_state → Progress input input 0 server held held
-progress_none input server held at = record { before = []; asked = []; asks = tt; parts = refl; count = refl; state = at; text = went_none held }
+pub progress_none : (input : List ℕ) (desk : Desk) (held : Option (List ℕ)) → DeskStandsAt desk first_state → Progress input input 0 desk held held
+progress_none input desk held at = record { before = []; asked = []; asks = tt; parts = refl; count = refl; state = at; text = went_none held }
 
--- the answer of the server is that of the state at which it stands
-pub answer_stands : (server : Server) (s : State) → StandsAt server s → (a : Asked) → answer (state_of server) a ≡ answer s a
-answer_stands server s at a = ap (λ (f : Frame). reply_line a.connection (message f)) (reply_stands server s at a.request)
-
-pub progress_more : (input rest after line : List ℕ) (lines : ℕ) (server server' : Server) (held held1 held2 : Option (List ℕ))
-    → Progress input rest lines server held held1 → lines_of rest ≡ line ∷ lines_of after → AnsweredLine line server server' held1 held2
-    → Progress input after (lines + 1) server' held held2
-progress_more input rest after line lines server server' held held1 held2 p next one =
-    let s = served_all first_state (bodies p.asked) in
+pub progress_more : (input rest after line : List ℕ) (lines : ℕ) (desk desk' : Desk) (held held1 held2 : Option (List ℕ))
+    → Progress input rest lines desk held held1 → lines_of rest ≡ line ∷ lines_of after → AnsweredLine line desk desk' held1 held2
+    → Progress input after (lines + 1) desk' held held2
+progress_more input rest after line lines desk desk' held held1 held2 p next one =
+    let s = served_all first_state p.asked in
     let a = one.asked in
     record {
       before = p.before ++ line ∷ [];
@@ -81,15 +65,14 @@ progress_more input rest after line lines server server' held held1 held2 p next
       asks = all_ask-push p.before p.asked line a p.asks one.asks;
       parts = p.parts ∙ ap (λ (l : List (List ℕ)). p.before ++ l) next ∙ sym (append_assoc p.before (line ∷ []) (lines_of after));
       count = omega (arith, p.count, length-append p.asked (a ∷ []));
-      state = subst (λ (t : State). StandsAt server' t) (sym (served_all-push first_state (bodies p.asked) a.request.body) ∙ ap (λ (bs : List Document). served_all first_state bs) (sym (bodies-push p.asked a)))
-          (served_stands server server' s p.state a.request.body one.state);
-      text = subst (λ (t : List ℕ). Went held held2 t) (ap (λ (t : List ℕ). answers first_state p.asked ++ t) (answer_stands server s p.state a) ∙ sym (answers-push first_state p.asked a))
-          (went_more held held1 held2 (answers first_state p.asked) (answer (state_of server) a) p.text one.text);
+      state = subst (λ (t : DeskState). DeskStandsAt desk' t) (sym (served_all-push first_state p.asked a)) (served_stands desk desk' s a p.state one.state);
+      text = subst (λ (t : List ℕ). Went held held2 t) (ap (λ (t : List ℕ). answers first_state p.asked ++ t) (answer_stands desk s a p.state) ∙ sym (answers-push first_state p.asked a))
+          (went_more held held1 held2 (answers first_state p.asked) (answer (desk_of desk) a) p.text one.text);
     }
 
-pub progress_ends : (input rest : List ℕ) (lines : ℕ) (server : Server) (held held' : Option (List ℕ)) → Progress input rest lines server held held' → lines_of rest ≡ []
-    → PlayedAll input lines server held held'
-progress_ends input rest lines server held held' p none =
+pub progress_ends : (input rest : List ℕ) (lines : ℕ) (desk : Desk) (held held' : Option (List ℕ)) → Progress input rest lines desk held held' → lines_of rest ≡ []
+    → PlayedAll input lines desk held held'
+progress_ends input rest lines desk held held' p none =
     record {
       asked = p.asked;
       asks = subst (λ (l : List (List ℕ)). AllAsk l p.asked) (sym (p.parts ∙ ap (λ (l : List (List ℕ)). p.before ++ l) none ∙ append-nil p.before)) p.asks;
@@ -108,10 +91,10 @@ there_at before line more n is =
     let within : n < length (before ++ line ∷ more) = omega (arith, length-append before (line ∷ more)) in
     slice_get-get_or (before ++ line ∷ more) n line within ∙ ap (λ (l : List ℕ). Some l) (get_or-append_right before (line ∷ more) n n line is (omega arith) ∙ ap (λ (k : ℕ). get_or (line ∷ more) k line) (gone n n refl))
 
-pub progress_stops : (input rest after line : List ℕ) (lines : ℕ) (server : Server) (held held1 held2 : Option (List ℕ))
-    → Progress input rest lines server held held1 → lines_of rest ≡ line ∷ lines_of after → IsBad line → held2 ≡ held1
+pub progress_stops : (input rest after line : List ℕ) (lines : ℕ) (desk : Desk) (held held1 held2 : Option (List ℕ))
+    → Progress input rest lines desk held held1 → lines_of rest ≡ line ∷ lines_of after → IsBad line → held2 ≡ held1
     → PlayedUpTo (lines + 1) input held held2
-progress_stops input rest after line lines server held held1 held2 p next bad same =
+progress_stops input rest after line lines desk held held1 held2 p next bad same =
     record {
       asked = p.asked;
       asks = front_asks input rest p.before p.asked p.asks p.parts;
@@ -130,34 +113,28 @@ went_further : (a b c : Option (List ℕ)) (xs ys : List ℕ) → Went a b xs �
 went_further a b c xs ys w p =
     (length xs + p.0, omega (arith, p.1, length-append xs ys), subst (λ (l : List ℕ). Went a c l) (sym (take-append-add xs ys p.0)) (went_more a b c xs (take p.0 ys) w p.2))
 
-pub progress_part : (input rest : List ℕ) (lines : ℕ) (server : Server) (held held1 held2 : Option (List ℕ)) → Progress input rest lines server held held1 → held2 ≡ held1 → PlayedInPart input held held2
-progress_part input rest lines server held held1 held2 p same =
+pub progress_part : (input rest : List ℕ) (lines : ℕ) (desk : Desk) (held held1 held2 : Option (List ℕ)) → Progress input rest lines desk held held1 → held2 ≡ held1 → PlayedInPart input held held2
+progress_part input rest lines desk held held1 held2 p same =
     record {
       asked = p.asked;
       asks = front_asks input rest p.before p.asked p.asks p.parts;
       text = subst (λ (h : Option (List ℕ)). WentInPart held h (answers first_state p.asked)) (sym same) (went_whole held held1 (answers first_state p.asked) p.text);
     }
 
-pub progress_cut : (input rest after line : List ℕ) (lines : ℕ) (server : Server) (held held1 held2 : Option (List ℕ))
-    → Progress input rest lines server held held1 → lines_of rest ≡ line ∷ lines_of after → AnsweredInPart line server held1 held2
+pub progress_cut : (input rest after line : List ℕ) (lines : ℕ) (desk : Desk) (held held1 held2 : Option (List ℕ))
+    → Progress input rest lines desk held held1 → lines_of rest ≡ line ∷ lines_of after → AnsweredInPart line desk held1 held2
     → PlayedInPart input held held2
-progress_cut input rest after line lines server held held1 held2 p next (inl same) = progress_part input rest lines server held held1 held2 p same
-progress_cut input rest after line lines server held held1 held2 p next (inr cut) =
-    let s = served_all first_state (bodies p.asked) in
+progress_cut input rest after line lines desk held held1 held2 p next (inl same) = progress_part input rest lines desk held held1 held2 p same
+progress_cut input rest after line lines desk held held1 held2 p next (inr cut) =
+    let s = served_all first_state p.asked in
     let a = cut.0 in
     record {
       asked = p.asked ++ a ∷ [];
       asks = front_asks input after (p.before ++ line ∷ []) (p.asked ++ a ∷ []) (all_ask-push p.before p.asked line a p.asks cut.1) (p.parts ∙ ap (λ (l : List (List ℕ)). p.before ++ l) next ∙ sym (append_assoc p.before (line ∷ []) (lines_of after)));
-      text = subst (λ (t : List ℕ). WentInPart held held2 t) (ap (λ (t : List ℕ). answers first_state p.asked ++ t) (answer_stands server s p.state a) ∙ sym (answers-push first_state p.asked a))
-          (went_further held held1 held2 (answers first_state p.asked) (answer (state_of server) a) p.text cut.2);
+      text = subst (λ (t : List ℕ). WentInPart held held2 t) (ap (λ (t : List ℕ). answers first_state p.asked ++ t) (answer_stands desk s a p.state) ∙ sym (answers-push first_state p.asked a))
+          (went_further held held1 held2 (answers first_state p.asked) (answer (desk_of desk) a) p.text cut.2);
     }
 
-pub progress_history : (input rest : List ℕ) (lines : ℕ) (server : Server) (held held' : Option (List ℕ)) → Progress input rest lines server held held' → HasInserted (state_of server)
-progress_history input rest lines server held held' p = has_inserted_at server (served_all first_state (bodies p.asked)) p.state (has_inserted (bodies p.asked))
-
-pub progress_serial : (input rest : List ℕ) (lines : ℕ) (server : Server) (held held' : Option (List ℕ)) → Progress input rest lines server held held' → server.serial ≤ lines
-progress_serial input rest lines server held held' p = omega (arith, p.state.serial, serial_bound (bodies p.asked), length-bodies p.asked, p.count)
-
 -- as many lines were played as there are, at the most
-pub progress_lines : (input rest : List ℕ) (lines : ℕ) (server : Server) (held held' : Option (List ℕ)) → Progress input rest lines server held held' → lines + length (lines_of rest) ≡ length (lines_of input)
-progress_lines input rest lines server held held' p = omega (arith, p.count, all_ask-length p.before p.asked p.asks, ap length p.parts, length-append p.before (lines_of rest))
+pub progress_lines : (input rest : List ℕ) (lines : ℕ) (desk : Desk) (held held' : Option (List ℕ)) → Progress input rest lines desk held held' → lines + length (lines_of rest) ≡ length (lines_of input)
+progress_lines input rest lines desk held held' p = omega (arith, p.count, all_ask-length p.before p.asked p.asks, ap length p.parts, length-append p.before (lines_of rest))

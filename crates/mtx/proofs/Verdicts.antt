@@ -6,7 +6,7 @@ use Rattle.std.proofs.lemmas.Option.{slice_get_within, get_or_from_slice_get}
 use Rattle.outcomes.specs.Told.{Told}
 use Rattle.mtx.specs.declared.status.Status.{Status}
 use Rattle.mtx.specs.declared.status.Status.TheVariants as status
-use Rattle.mtx.specs.Lines.{lines_of, Asked, Asks}
+use Rattle.play_script.specs.Lines.{lines_of, Asked, Asks}
 use Rattle.mtx.specs.Play.{AllAsk, IsPlayable, FirstBadLine, IsOverrun}
 use Rattle.mtx.specs.Ending.{Judges, IsInterrupted}
 

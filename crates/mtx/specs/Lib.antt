@@ -1,16 +1,6 @@
 pub mod Words
-pub mod Lines
-pub mod Input
-pub mod Counting
-pub mod Inserts
-pub mod Replies
-pub mod Serving
-pub mod Standing
-pub mod Looking
-pub mod Text
 pub mod Play
 pub mod Playing
 pub mod OneLine
 pub mod Ending
-pub mod Refusals
 pub mod Statuses

@@ -1,16 +1,10 @@
 -- What `play` does: it answers the lines of a schedule in their order, and its answers are those of one list of
 -- commits.
-use Rattle.std.specs.Prelude.{◌≡◌, ℕ, ◌+◌, ◌≤◌, ◌<◌, ◌⊎◌, List, [], ◌∷◌, ◌++◌, length, map, take, Some, Bool, All, IsOk, IsTrue, slice_get}
-use Rattle.std.specs.List.{list_any}
-use Rattle.bson_core.specs.Fields.{Document}
-use Rattle.txn_types.specs.declared.names.Tag.{Tag}
-use Rattle.txn_types.specs.Order.{same_tag}
-use Rattle.txn_semantics.specs.declared.commits.Entry.{Entry}
-use Rattle.txn_semantics.specs.declared.commits.Answered.{Answered}
-use Rattle.txn_semantics.specs.Answers.{Right}
-use Rattle.mtx.specs.Lines.{lines_of, Asked, Asks}
-use Rattle.mtx.specs.Serving.{State, first_state, served_all}
-use Rattle.mtx.specs.Text.{answers, dump}
+use Rattle.std.specs.Prelude.{◌≡◌, ℕ, ◌+◌, ◌≤◌, ◌<◌, ◌⊎◌, List, [], ◌∷◌, ◌++◌, length, take, Some, slice_get}
+use Rattle.single_node.specs.Right.{AnswersRight}
+use Rattle.play_script.specs.Lines.{lines_of, Asked, Asks, IsBad}
+use Rattle.play_run.specs.Serving.{DeskState, first_state, served_all, answers}
+use Rattle.play_run.specs.Text.{dump}
 
 -- the lines ask this, line by line
 abbrev pub AllAsk : List (List ℕ) → List Asked → Type 0
@@ -19,33 +13,13 @@ AllAsk [] (a ∷ asked) = ⊥
 AllAsk (line ∷ lines) [] = ⊥
 AllAsk (line ∷ lines) (a ∷ asked) = Asks line a × AllAsk lines asked
 
--- the line asks nothing
-abbrev pub IsBad : List ℕ → Type 0
-IsBad line = (a : Asked) → Asks line a → ⊥
+-- the state behind the first lines, so many of them
+abbrev pub behind : ℕ → List Asked → DeskState
+behind n asked = served_all first_state (take n asked)
 
--- the bodies of requests
-abbrev pub bodies : List Asked → List Document
-bodies asked = map (λ a. a.request.body) asked
-
--- the state behind the first requests, so many of them
-abbrev pub behind : ℕ → List Asked → State
-behind n asked = served_all first_state (take n (bodies asked))
-
--- the boots of the routers: router 0 was booted once
-abbrev pub boots : List ℕ
-boots = 1 ∷ []
-
--- a transaction of this tag committed
-abbrev pub has_commit : Tag → List Entry → Bool
-has_commit tag entries = list_any (λ e. same_tag e.tag tag) entries
-
--- each insert that was told that it is done is among the commits
-abbrev pub DoneIsCommitted : List Entry → List Answered → Type 0
-DoneIsCommitted entries answered = All (λ a. IsOk a.outcome → IsTrue (has_commit a.tag entries)) answered
-
--- the answers are right after each of the requests, and what was told done is committed
+-- the answers are right after each of the lines, and what was told done is committed
 abbrev pub RightThroughout : List Asked → Type 0
-RightThroughout asked = (n : ℕ) → n ≤ length asked → Right boots (behind n asked).entries (behind n asked).answered × DoneIsCommitted (behind n asked).entries (behind n asked).answered
+RightThroughout asked = (n : ℕ) → n ≤ length asked → AnswersRight (behind n asked).server
 
 -- each line asks something, and there are no more than are played
 pub record IsPlayable (input : List ℕ) : Type 0 where
@@ -73,7 +47,7 @@ pub record IsOverrun (input : List ℕ) : Type 0 where
 pub record Played (input before after : List ℕ) : Type 0 where
   pub asked : List Asked
   pub lines : AllAsk (lines_of input) asked
-  pub text : after ≡ before ++ answers first_state asked ++ dump (behind (length asked) asked).entries
+  pub text : after ≡ before ++ answers first_state asked ++ dump (behind (length asked) asked).server.entries
   pub right : RightThroughout asked
 
 -- the replies to the first lines, so many of them, were written, and no more
@@ -89,5 +63,5 @@ pub record CutShort (input before after : List ℕ) : Type 0 where
   pub asked : List Asked
   pub lines : AllAsk (take (length asked) (lines_of input)) asked
   pub rest : List ℕ
-  pub text : (after ++ rest ≡ before ++ answers first_state asked) ⊎ ((length asked ≡ length (lines_of input)) × (after ++ rest ≡ before ++ answers first_state asked ++ dump (behind (length asked) asked).entries))
+  pub text : (after ++ rest ≡ before ++ answers first_state asked) ⊎ ((length asked ≡ length (lines_of input)) × (after ++ rest ≡ before ++ answers first_state asked ++ dump (behind (length asked) asked).server.entries))
   pub right : RightThroughout asked

@@ -1,19 +1,18 @@
 -- How far a schedule's lines were played.
 use Rattle.std.specs.Prelude.{◌≡◌, ℕ, ◌+◌, List, length, take, Option, Some, slice_get}
 use Rattle.outside_core.specs.Bytes.{Went, WentInPart}
-use Rattle.mtx.specs.declared.server.Server.{Server}
-use Rattle.mtx.specs.Lines.{lines_of, Asked}
-use Rattle.mtx.specs.Serving.{first_state, served_all}
-use Rattle.mtx.specs.Standing.{StandsAt}
-use Rattle.mtx.specs.Text.{answers}
-use Rattle.mtx.specs.Play.{AllAsk, IsBad, bodies}
+use Rattle.play_script.specs.Lines.{lines_of, Asked, IsBad}
+use Rattle.play_run.specs.declared.desk.Desk.{Desk}
+use Rattle.play_run.specs.Serving.{first_state, served_all, answers}
+use Rattle.play_run.specs.Standing.{DeskStandsAt}
+use Rattle.mtx.specs.Play.{AllAsk}
 
 -- all lines were answered, so many of them, and no more was written
-pub record PlayedAll (input : List ℕ) (lines : ℕ) (server : Server) (held held' : Option (List ℕ)) : Type 0 where
+pub record PlayedAll (input : List ℕ) (lines : ℕ) (desk : Desk) (held held' : Option (List ℕ)) : Type 0 where
   pub asked : List Asked
   pub asks : AllAsk (lines_of input) asked
   pub count : lines ≡ length asked
-  pub state : StandsAt server (served_all first_state (bodies asked))
+  pub state : DeskStandsAt desk (served_all first_state asked)
   pub text : Went held held' (answers first_state asked)
 
 -- the lines in front of this one were answered, and no more was written; this one asks nothing

@@ -1,12 +1,12 @@
 ghost use Rattle.std.specs.Prelude.{◌≡◌, ◌⊎◌, ℕ, List};
 ghost use Rattle.outcomes.specs.Causes.{Rose};
-ghost use Rattle.mtx.specs.Lines.{Asked};
+ghost use Rattle.play_script.specs.Lines.{Asked};
 ghost use Rattle.mtx.specs.Play.{IsPlayable, RightThroughout};
 ghost use Rattle.mtx.specs.Ending.{Judges, IsInterrupted};
 ghost use Rattle.mtx.specs.declared.status.Status.{Status};
 ghost use Rattle.mtx.specs.declared.status.Status.TheVariants.{Ok, Memory, ReadFault, WriteFault};
 
-/// Whatever is asked, the answers are those of one list of commits, after each request.
+/// Whatever is asked, the answers are those of one list of commits, behind each line.
 pub fn answers_are_right()
     ensures { (asked : List Asked) → RightThroughout asked }
 {}

@@ -2,15 +2,8 @@
 //! commits to standard output.
 #![tactic(auto)]
 
-mod dump;
-mod input;
-mod insert;
 pub mod laws;
-mod line;
-mod look;
 mod offline;
-mod reply;
-mod server;
 mod status;
 mod stdio;
 #[cfg(test)]

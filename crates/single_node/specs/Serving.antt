@@ -1,14 +1,13 @@
 -- What one router and one shard do with requests. A statement draws a serial, and is evaluated over all commits so far;
 -- where it writes something, it commits. So each command is a transaction by itself, as a write outside a transaction is
 -- in the MongoDB manual.
-use Rattle.std.specs.Prelude.{ℕ, ◌+◌, ◌==◌, Bool, false, not, List, [], ◌∷◌, ◌++◌, length, Some, None, Ok, Err, if◌then◌else◌}
+use Rattle.std.specs.Prelude.{ℕ, ◌+◌, ◌-◌, ◌^◌, ◌==◌, nat_lt, Bool, not, List, [], ◌∷◌, ◌++◌, length, Some, None, Ok, Err, if◌then◌else◌}
 use Rattle.txn_types.specs.Clock.{next_time}
 use Rattle.txn_types.specs.declared.names.Tag.{Tag}
 use Rattle.txn_types.specs.declared.operation.Op.{Op}
-use Rattle.txn_types.specs.declared.operation.Op.TheVariants.{Insert, Find, Update, Delete}
+use Rattle.txn_types.specs.declared.operation.Op.TheVariants.{Update}
 use Rattle.txn_types.specs.declared.operation.OpReply.{OpReply}
 use Rattle.txn_types.specs.declared.operation.OpReply.TheVariants.{Count, Rows}
-use Rattle.txn_types.specs.declared.write.Write.{Write}
 use Rattle.txn_semantics.specs.declared.commits.Entry.{Entry}
 use Rattle.txn_semantics.specs.declared.commits.Answered.{Answered}
 use Rattle.txn_semantics.specs.Meaning.{Meaning, eval, reply_of, writes_of, ns_of}
@@ -17,7 +16,7 @@ use Rattle.client_cmd.specs.declared.request.Request.{Request}
 use Rattle.client_cmd.specs.declared.request.Request.TheVariants.{Ping, Statement}
 use Rattle.client_reply.specs.declared.reply.Reply.{Reply}
 use Rattle.client_reply.specs.declared.reply.Reply.TheVariants as reply
-use Rattle.client_reply.specs.declared.reply.Refusal.TheVariants.{ReplyTooLarge}
+use Rattle.client_reply.specs.declared.reply.Refusal.TheVariants.{ReplyTooLarge, Spent}
 
 -- the serial drawn last, the time of the last commit, the commits, and the statements that were answered
 pub record State : Type 0 where
@@ -61,10 +60,14 @@ with_answer s op m =
       answered = s.answered ++ statement_of s op m ∷ [];
     }
 
--- behind a request
+-- a serial is left to draw: the last is 2 ^ 63 - 1
+abbrev pub has_serial : State → Bool
+has_serial s = nat_lt s.serial (2 ^ 63 - 1)
+
+-- behind a request; without a serial a statement is refused unseen
 abbrev pub served : State → Request → State
 served s Ping = s
-served s (Statement op) = with_answer s op (meaning s op)
+served s (Statement op) = if has_serial s then with_answer s op (meaning s op) else s
 
 -- behind requests, one after the other
 abbrev pub served_all : State → List Request → State
@@ -85,4 +88,4 @@ told op (Err e) = reply.Caused e
 -- the reply to a request
 abbrev pub reply_to : State → Request → Reply
 reply_to s Ping = reply.Ping
-reply_to s (Statement op) = told op (meaning s op)
+reply_to s (Statement op) = if has_serial s then told op (meaning s op) else reply.Refused Spent

@@ -1,5 +1,5 @@
 use Rattle.std.proofs.Common.{◌≡◌, ℕ, Result, Err, refl, ap}
-use Rattle.mtx.specs.declared.line.LineErr.{LineErr}
+use Rattle.play_script.specs.declared.line.LineErr.{LineErr}
 use Rattle.mtx.specs.declared.offline.Stop.{Stop}
 use Rattle.mtx.specs.declared.offline.Stop.TheVariants.{BadLine}
 use Rattle.mtx.proofs.offline.play_line.Goals as goal

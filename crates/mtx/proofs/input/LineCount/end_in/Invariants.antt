@@ -1,6 +1,0 @@
-use Rattle.std.proofs.Common.{take}
-use Rattle.mtx.specs.Counting.{Counted}
-use Rattle.mtx.proofs.input.LineCount.end_in.Given as goal
-
-abbrev pub invariant-loop-place : goal.invariant-loop-place
-invariant-loop-place l = Counted (take l.place l.bytes) l.self
