@@ -4,6 +4,8 @@
 
 pub mod laws;
 mod offline;
+#[cfg(test)]
+mod rows;
 mod status;
 mod stdio;
 #[cfg(test)]

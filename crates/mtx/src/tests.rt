@@ -1,4 +1,5 @@
 use crate::offline::offline;
+use crate::rows::ROWS;
 use crate::status::Status;
 use outside_core::{MemSink, MemSource, Sink, Source};
 use std::alloc::{AllocError, Global};
@@ -102,9 +103,21 @@ fn an_int64_is_the_id_of_an_int32(rt: HostRuntime) -> Result<(), Fail> {
 }
 
 #[test]
+fn schedules_and_their_texts(rt: HostRuntime) -> Result<(), Fail> {
+    let alloc = rt.alloc();
+    let words = words_of(alloc, "play")?;
+    for (input, text) in ROWS {
+        let ran = play(alloc, &words, input, Vec::new(alloc), Vec::new(alloc))?;
+        assert_eq!(rt; ran.status, Status::Ok, "at {input}");
+        assert_eq!(rt; ran.text.as_slice(), text.as_bytes(), "at {input}");
+    }
+    Ok(())
+}
+
+#[test]
 fn words_and_lines_that_are_refused(rt: HostRuntime) -> Result<(), Fail> {
     let alloc = rt.alloc();
-    let second_bad = format!(in alloc; "{INSERT}client 1 5b\n{INSERT}")?;
+    let second_bad = format!(in alloc; "{INSERT}client 1 5\n{INSERT}")?;
     let carriage = INSERT.replace(alloc, "\n", "\r\n")?;
     for (words, input, status, text) in [
         ("play", "", Status::Ok, "dump 0\n"),
