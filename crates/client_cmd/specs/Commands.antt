@@ -35,7 +35,8 @@ abbrev pub first_name : Document → List ℕ
 first_name [] = []
 first_name (field ∷ fields) = field.0
 
--- the fields by which a command is one of a transaction, or of a session's times
+-- the fields by which a command is one of a transaction or has a place in time, as the manual's chapters on transactions and
+-- on causal consistency have them
 abbrev pub is_transactional : List ℕ → Bool
 is_transactional name = list_any (λ other. bytes_eq name other) (
     codes "txnNumber" ∷
@@ -53,22 +54,22 @@ served name transactional (Some command) = if transactional then Err (Unknown na
 abbrev pub command_in : Document → Result Command CmdErr
 command_in body = served (first_name body) (list_any (λ field. is_transactional field.0) body) (command_named (first_name body))
 
--- a write concern for which no member has to have done the write: `{w: 0}`
-abbrev pub waits_for_none : Option Value → Bool
-waits_for_none None = false
-waits_for_none (Some w) = is_zero (out-Value w)
+-- a write concern that asks for no acknowledgement: `{w: 0}`, as the manual's page on write concern has it
+abbrev pub asks_for_none : Option Value → Bool
+asks_for_none None = false
+asks_for_none (Some w) = is_zero (out-Value w)
 
-abbrev pub is_no_concern : Value-F Value → Bool
-is_no_concern (of.Doc concern) = waits_for_none (value_of (codes "w") concern)
-is_no_concern other = false
+abbrev pub is_unacknowledging : Value-F Value → Bool
+is_unacknowledging (of.Doc concern) = asks_for_none (value_of (codes "w") concern)
+is_unacknowledging other = false
 
-abbrev pub has_no_concern : Option Value → Bool
-has_no_concern None = false
-has_no_concern (Some concern) = is_no_concern (out-Value concern)
+abbrev pub wants_no_answer : Option Value → Bool
+wants_no_answer None = false
+wants_no_answer (Some concern) = is_unacknowledging (out-Value concern)
 
--- the sender wants no answer: moreToCome is set, or the write concern waits for none
+-- the sender wants no answer: moreToCome is set (the OP_MSG page of the wire protocol), or the write concern asks for none
 abbrev pub is_unacknowledged : Frame → Bool
-is_unacknowledged frame = frame.more || has_no_concern (value_of (codes "writeConcern") frame.body)
+is_unacknowledged frame = frame.more || wants_no_answer (value_of (codes "writeConcern") frame.body)
 
 -- the request of a command that is served
 abbrev pub request_by : Command → Frame → Result Request CmdErr

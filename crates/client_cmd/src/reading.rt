@@ -5,7 +5,7 @@ ghost use Rattle.bson_core.specs.Fields.{value_of};
 ghost use Rattle.crud_parse.specs.Commands.{command_named};
 ghost use Rattle.crud_parse.specs.Values.{is_zero};
 ghost use Rattle.client_cmd.specs.Errors.{Gives};
-ghost use Rattle.client_cmd.specs.Commands.{first_name, is_transactional, command_in, waits_for_none, is_no_concern, has_no_concern, is_unacknowledged, request_by, request_of};
+ghost use Rattle.client_cmd.specs.Commands.{first_name, is_transactional, command_in, asks_for_none, wants_no_answer, is_unacknowledged, request_by, request_of};
 
 use crate::error::CmdErr;
 use crate::request::Request;
@@ -79,9 +79,9 @@ fn is_zero(value: &Value) -> bool
     }
 }
 
-/// Whether a write concern waits for no member.
-fn waits_for_none(concern: &Doc) -> bool
-    ensures { result ≡ waits_for_none (value_of (codes "w") concern.now) }
+/// Whether a write concern asks for no acknowledgement.
+fn asks_for_none(concern: &Doc) -> bool
+    ensures { result ≡ asks_for_none (value_of (codes "w") concern.now) }
 {
     match get(concern, "w") {
         Some(value) => is_zero(value),
@@ -89,12 +89,12 @@ fn waits_for_none(concern: &Doc) -> bool
     }
 }
 
-/// Whether the write concern of the body waits for no member.
-fn has_no_concern(body: &Doc) -> bool
-    ensures { result ≡ has_no_concern (value_of (codes "writeConcern") body.now) }
+/// Whether the write concern of the body asks for no acknowledgement.
+fn wants_no_answer(body: &Doc) -> bool
+    ensures { result ≡ wants_no_answer (value_of (codes "writeConcern") body.now) }
 {
     match get(body, "writeConcern") {
-        Some(Value::Doc(concern)) => waits_for_none(concern),
+        Some(Value::Doc(concern)) => asks_for_none(concern),
         Some(_) => false,
         None => false,
     }
@@ -104,7 +104,7 @@ fn has_no_concern(body: &Doc) -> bool
 fn is_unacknowledged(frame: &Frame) -> bool
     ensures { result ≡ is_unacknowledged frame.now }
 {
-    frame.more || has_no_concern(&frame.body)
+    frame.more || wants_no_answer(&frame.body)
 }
 
 /// The request of a command that is served.

@@ -1,6 +1,3 @@
-ghost use Rattle.std.specs.Prelude.{IfOk};
-
-use std::alloc::{AllocError, Global};
 use txn_types::Op;
 
 /// What a client asks.

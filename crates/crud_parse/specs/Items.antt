@@ -39,13 +39,13 @@ abbrev pub documents_in : List ℕ → Value-F Value → Result (List Document) 
 documents_in name (of.List values) = each (λ value. or_wrong name (document_in (out-Value value))) values
 documents_in name other = Err (WrongKind name)
 
--- 1 to 100,000 of them
-abbrev pub in_number : List ℕ → List Document → Result (List Document) CrudErr
-in_number name docs = if nat_le 1 (length docs) && nat_le (length docs) 100000 then Ok docs else Err (WrongKind name)
+-- 1 to 100,000 of them, which is the manual's maxWriteBatchSize
+abbrev pub of_batch_size : List ℕ → List Document → Result (List Document) CrudErr
+of_batch_size name docs = if nat_le 1 (length docs) && nat_le (length docs) 100000 then Ok docs else Err (WrongKind name)
 
 abbrev pub batch_in : Batch → Given → Result (List Document) CrudErr
-batch_in batch (InBody value) = documents_in (list_name batch) (out-Value value) >>= in_number (list_name batch)
-batch_in batch (InSection docs) = in_number (list_name batch) docs
+batch_in batch (InBody value) = documents_in (list_name batch) (out-Value value) >>= of_batch_size (list_name batch)
+batch_in batch (InSection docs) = of_batch_size (list_name batch) docs
 
 -- a document to insert has an id, and at most 16,777,216 bytes
 abbrev pub id_check : Option Value → Checked
@@ -68,7 +68,7 @@ item_field_by name value (Some item.Limit) = complete (or_wrong name (all_in (ou
 abbrev pub item_field_check : Change → List ℕ × Value → Checked
 item_field_check change field = item_field_by field.0 field.1 (item_rule change field.0)
 
--- `multi: true` beside an update that replaces the whole document
+-- `multi: true` beside an update that replaces the whole document; an item of a delete has neither field
 abbrev pub is_true : Value-F Value → Bool
 is_true (of.Bool b) = b
 is_true other = false

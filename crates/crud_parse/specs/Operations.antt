@@ -125,8 +125,8 @@ falls_under body = given_or false (λ value. or_wrong (codes "sort") (falls_in (
 abbrev pub limit_under : Document → Result ℕ CrudErr
 limit_under body = given_or 0 (λ value. or_wrong (codes "limit") (limit_in (out-Value value))) (value_of (codes "limit") body)
 
-abbrev pub found : List ℕ → Document → Result Op CrudErr
-found ns body = do
+abbrev pub find_of : List ℕ → Document → Result Op CrudErr
+find_of ns body = do
   filter ← filter_under body
   down ← falls_under body
   limit ← limit_under body
@@ -135,7 +135,7 @@ found ns body = do
 -- the operation of each statement
 abbrev pub built : Statement → List ℕ → Frame → Result Op CrudErr
 built Insert ns frame = batch_under Documents frame >>= each_at insert_item 0 >>= λ docs. Ok (op.Insert ns docs)
-built Find ns frame = found ns frame.body
+built Find ns frame = find_of ns frame.body
 built Update ns frame = batch_under (Changes change.Update) frame >>= each_at update_item 0 >>= λ items. Ok (op.Update ns items)
 built Delete ns frame = batch_under (Changes change.Delete) frame >>= each_at delete_item 0 >>= λ items. Ok (op.Delete ns items)
 

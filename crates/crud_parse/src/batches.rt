@@ -4,7 +4,7 @@ ghost use Rattle.crud_parse.specs.Results.{Gives, each};
 ghost use Rattle.crud_parse.specs.Commands.{list_name};
 ghost use Rattle.crud_parse.specs.Values.{document_in};
 ghost use Rattle.crud_parse.specs.Checks.{or_wrong};
-ghost use Rattle.crud_parse.specs.Items.{InBody, InSection, documents_in, in_number, batch_in};
+ghost use Rattle.crud_parse.specs.Items.{InBody, InSection, documents_in, of_batch_size, batch_in};
 
 use crate::error::CrudErr;
 use crate::rules::Batch;
@@ -12,8 +12,8 @@ use crate::values::document_in;
 use bson_core::{Doc, Value};
 use std::alloc::Global;
 
-/// A batch has no more documents.
-const MOST_DOCUMENTS: usize = 100_000;
+/// A batch has no more documents: the manual's `maxWriteBatchSize`.
+const MAX_WRITE_BATCH_SIZE: usize = 100_000;
 
 /// The documents that the values are.
 fn read_documents<'a>(
@@ -36,11 +36,15 @@ fn read_documents<'a>(
 }
 
 /// These documents, where they are 1 to 100,000.
-fn in_number<'a>(alloc: Global, batch: Batch, docs: Vec<&'a Doc>) -> Result<Vec<&'a Doc>, CrudErr>
-    ensures docs { Gives (λ docs. map (λ doc. doc.now) docs.items) result (in_number (list_name batch) (map (λ doc. doc.now) docs.entry.items)) }
+fn of_batch_size<'a>(
+    alloc: Global,
+    batch: Batch,
+    docs: Vec<&'a Doc>,
+) -> Result<Vec<&'a Doc>, CrudErr>
+    ensures docs { Gives (λ docs. map (λ doc. doc.now) docs.items) result (of_batch_size (list_name batch) (map (λ doc. doc.now) docs.entry.items)) }
     ensures most { IfOk result (λ docs. length docs.items ≤ 100000) }
 {
-    if docs.is_empty() || docs.len() > MOST_DOCUMENTS {
+    if docs.is_empty() || docs.len() > MAX_WRITE_BATCH_SIZE {
         return Err(CrudErr::WrongKind {
             name: batch.name(alloc)?,
         });
@@ -60,7 +64,7 @@ pub fn batch_in_value<'a>(
     match value {
         Value::List(list) => {
             let docs = read_documents(alloc, batch, list.as_slice())?;
-            in_number(alloc, batch, docs)
+            of_batch_size(alloc, batch, docs)
         }
         _ => Err(CrudErr::WrongKind {
             name: batch.name(alloc)?,
@@ -81,5 +85,5 @@ pub fn batch_in_section<'a>(
     for doc in section {
         docs.push(doc)?;
     }
-    in_number(alloc, batch, docs)
+    of_batch_size(alloc, batch, docs)
 }

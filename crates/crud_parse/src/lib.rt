@@ -1,4 +1,4 @@
-//! What clients write: filters, updates and statements, as documents, are read into what they mean.
+//! What clients write: filters and updates, which are documents, and whole statements are read into what they mean.
 #![tactic(auto)]
 
 mod batches;

@@ -1,6 +1,6 @@
 ghost use Rattle.std.specs.Prelude.{◌≡◌, ◌≤◌, map, length, IfOk};
 ghost use Rattle.crud_parse.specs.Results.{Gives};
-ghost use Rattle.crud_parse.specs.Operations.{text_under, namespace_in, batch_under, filter_under, falls_under, limit_under, found, built, op_of, ping_of};
+ghost use Rattle.crud_parse.specs.Operations.{text_under, namespace_in, batch_under, filter_under, falls_under, limit_under, find_of, built, op_of, ping_of};
 
 use crate::batches::{batch_in_section, batch_in_value};
 use crate::building::{delete_items, field_in, insert_items, update_items};
@@ -97,7 +97,7 @@ fn limit_under(alloc: Global, body: &Doc) -> Result<u64, CrudErr>
 }
 
 fn build_find(alloc: Global, ns: Ns, body: &Doc) -> Result<Op, CrudErr>
-    ensures { Gives (λ o. o) result (found ns body.now) }
+    ensures { Gives (λ o. o) result (find_of ns body.now) }
 {
     let filter = filter_under(alloc, body)?;
     let down = falls_under(alloc, body)?;
