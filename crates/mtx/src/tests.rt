@@ -5,7 +5,7 @@ use outside_core::{MemSink, MemSource, Sink, Source};
 use std::alloc::{AllocError, Global};
 use std::test::Fail;
 
-/// An insert of `{_id: 1, a: 0}` into the collection `c` of the database `d`, on connection 1.
+/// An insert of `{_id: 1, a: 5}` into the collection `c` of the database `d`, on connection 1.
 const INSERT: &str = "client 1 5b0000000700000000000000dd0700000000000000\
 4600000002696e736572740002000000630004646f63756d656e7473001d00000003300015000000105f69640001000000106100\
 050000000000022464620002000000640000\n";
