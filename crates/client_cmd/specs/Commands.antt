@@ -9,12 +9,12 @@ use Rattle.bson_core.specs.declared.value.Value.TheOpen.{Value-F}
 use Rattle.bson_core.specs.declared.value.Value.TheViews.{out-Value}
 use Rattle.bson_core.specs.Fields.{Document, value_of}
 use Rattle.op_msg.specs.declared.frame.Frame.{Frame}
-use Rattle.crud_parse.specs.declared.command.Command.{Command}
-use Rattle.crud_parse.specs.declared.command.Command.TheVariants as command
+use Rattle.command_parse.specs.declared.command.Command.{Command}
+use Rattle.command_parse.specs.declared.command.Command.TheVariants as command
 use Rattle.crud_parse.specs.declared.error.CrudErr.{CrudErr}
-use Rattle.crud_parse.specs.Commands.{command_named}
-use Rattle.crud_parse.specs.Operations.{op_of, ping_of}
-use Rattle.crud_parse.specs.Values.{is_zero}
+use Rattle.command_parse.specs.Commands.{command_named}
+use Rattle.command_parse.specs.Operations.{op_of, ping_of}
+use Rattle.command_parse.specs.Values.{is_zero}
 use Rattle.client_cmd.specs.declared.request.Request.{Request}
 use Rattle.client_cmd.specs.declared.request.Request.TheVariants.{Ping, Statement}
 use Rattle.client_cmd.specs.declared.error.CmdErr.{CmdErr}

@@ -2,15 +2,15 @@ ghost use Rattle.std.specs.Prelude.{◌≡◌, IfOk, codes};
 ghost use Rattle.std.specs.List.{list_any};
 ghost use Rattle.bson_core.specs.declared.value.Value.TheViews.{out-Value};
 ghost use Rattle.bson_core.specs.Fields.{value_of};
-ghost use Rattle.crud_parse.specs.Commands.{command_named};
-ghost use Rattle.crud_parse.specs.Values.{is_zero};
+ghost use Rattle.command_parse.specs.Commands.{command_named};
+ghost use Rattle.command_parse.specs.Values.{is_zero};
 ghost use Rattle.client_cmd.specs.Errors.{Gives};
 ghost use Rattle.client_cmd.specs.Commands.{first_name, is_transactional, command_in, asks_for_none, wants_no_answer, is_unacknowledged, request_by, request_of};
 
 use crate::error::CmdErr;
 use crate::request::Request;
 use bson_core::{Doc, Name, Value, get};
-use crud_parse::{Command, read_op, read_ping};
+use command_parse::{Command, read_op, read_ping};
 use op_msg::Frame;
 use std::alloc::{AllocError, Global};
 

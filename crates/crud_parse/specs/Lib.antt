@@ -3,8 +3,3 @@ pub mod Names
 pub mod Operators
 pub mod Filters
 pub mod Updates
-pub mod Commands
-pub mod Checks
-pub mod Values
-pub mod Items
-pub mod Operations

@@ -62,7 +62,7 @@ fn list_in(alloc: Global, operator: &Name, value: &Value) -> Result<List, CrudEr
     }
 }
 
-/// The truth value that is the operator's value.
+/// The truth value that is the value of that name; a value of another kind is `WrongKind` with the name.
 pub fn flag_in(alloc: Global, operator: &Name, value: &Value) -> Result<bool, CrudErr>
     ensures { Gives (λ b. b) result (flag_in operator.now (out-Value value.now)) }
 {
@@ -142,7 +142,8 @@ fn read_field(alloc: Global, name: &Name, value: &Value) -> Result<Filter, CrudE
     }
 }
 
-/// The filter that a document in the list of that name is.
+/// The filter that the value of that name is, which has to be a document; otherwise it is `WrongKind` with the name, or what
+/// `read_filter` refuses.
 #[cycle(filter)]
 pub fn read_inner(alloc: Global, name: &Name, value: &Value) -> Result<Filter, CrudErr>
     ensures { Gives (λ f. f) result (inner_by filter_of name.now (out-Value value.now)) }

@@ -102,7 +102,7 @@ going_on w c server server' feeder feeder' before after g t =
     let next = all_turns c first.server first.held in
     let whole : all_turns c s feeder.held ≡ and_then first next = first_and_all c s feeder.held (sym t.more) in
     let like : TurnsAlike (all_turns c (state_of server') feeder'.held) next =
-        subst (λ (h : List ℕ). TurnsAlike (all_turns c (state_of server') h) next) (sym t.held) (turns_alike (suc (length first.held)) c (state_of server') first.server first.held (stands_alike server' first.server t.state)) in
+    subst (λ (h : List ℕ). TurnsAlike (all_turns c (state_of server') h) next) (sym t.held) (turns_alike (suc (length first.held)) c (state_of server') first.server first.held (stands_alike server' first.server t.state)) in
     record {
       text = ap (λ (x : List ℕ). x ++ (all_turns c (state_of server') feeder'.held).text) t.text ∙ append_assoc before first.text (all_turns c (state_of server') feeder'.held).text
           ∙ ap (λ (x : List ℕ). before ++ (first.text ++ x)) (sym like.text) ∙ ap (λ (x : Turn). before ++ x.text) (sym whole) ∙ g.text;

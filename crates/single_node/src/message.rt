@@ -11,6 +11,7 @@ use std::alloc::Global;
 
 /// Where a message's own number stands, and where its flags do.
 const REQUEST_ID: usize = 4;
+
 const FLAGS: usize = 16;
 
 /// Why a message isn't served.

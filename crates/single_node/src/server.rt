@@ -47,7 +47,11 @@ fn into_namespace(op: Op) -> Ns
 {
     match op {
         Op::Insert { ns, docs: _docs } => ns,
-        Op::Find { ns, filter: _filter, .. } => ns,
+        Op::Find {
+            ns,
+            filter: _filter,
+            ..
+        } => ns,
         Op::Update { ns, items: _items } => ns,
         Op::Delete { ns, items: _items } => ns,
     }
@@ -64,7 +68,10 @@ fn told(op: Op, reply: OpReply) -> Reply
                 n,
                 modified: Some(modified),
             },
-            Op::Insert { .. } | Op::Find { .. } | Op::Delete { .. } => Reply::Wrote { n, modified: None },
+            Op::Insert { .. } | Op::Find { .. } | Op::Delete { .. } => Reply::Wrote {
+                n,
+                modified: None,
+            },
         },
         OpReply::Rows { docs, cut: None } => Reply::Found {
             ns: into_namespace(op),

@@ -1,7 +1,0 @@
-use Rattle.std.proofs.Common.{◌≡◌, [], drop, map}
-use Rattle.crud_parse.specs.Results.{with_front}
-use Rattle.crud_parse.specs.Items.{each_at, delete_item}
-use Rattle.crud_parse.proofs.building.delete_items.Given as goal
-
-abbrev pub invariant-loop-index : goal.invariant-loop-index
-invariant-loop-index l = with_front l.items.items (each_at delete_item l.index (map (λ doc. doc.now) (drop l.index l.docs))) ≡ with_front [] (each_at delete_item 0 (map (λ doc. doc.now) l.docs))

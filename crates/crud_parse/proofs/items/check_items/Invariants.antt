@@ -1,7 +1,0 @@
-use Rattle.std.proofs.Common.{◌≡◌, drop, map}
-use Rattle.crud_parse.specs.Checks.{behind, check_each}
-use Rattle.crud_parse.specs.Items.{item_check}
-use Rattle.crud_parse.proofs.items.check_items.Given as goal
-
-abbrev pub invariant-loop-doc : goal.invariant-loop-doc
-invariant-loop-doc l = behind l.missing (check_each (item_check l.batch) (map (λ doc. doc.now) (drop l.doc-index l.docs))) ≡ check_each (item_check l.batch) (map (λ doc. doc.now) l.docs)
