@@ -12,7 +12,7 @@ use txn_types::{Docs, Id, Ns, OpErr, Ts, What};
 /// Time 0, at which no time is known, and the first increment of second 1.
 const TIMES: (Ts, Ts) = (Ts(0), Ts(4_294_967_297));
 
-/// What was done, and the replies to request 7 at either time.
+/// What was done, and the replies at either time.
 const DONE: &[(&str, &str, &str)] = &[
     // {ok: 1}
     (
@@ -93,7 +93,7 @@ const DONE: &[(&str, &str, &str)] = &[
     ),
 ];
 
-/// Why statements were refused, and the replies to request 7 at either time.
+/// Why statements were refused, and the replies at either time.
 const CAUSES: &[(&str, &str, &str)] = &[
     // {ok: 0, errmsg: "duplicate key {\"_id\": -5} at index 0", code: 11000, codeName: "DuplicateKey"}
     (
@@ -170,7 +170,7 @@ const CAUSES: &[(&str, &str, &str)] = &[
     ),
 ];
 
-/// Why requests were refused, and the replies to request 7 at either time.
+/// Why requests were refused, and the replies at either time.
 const REFUSALS: &[(&str, &str, &str)] = &[
     // {ok: 0, errmsg: "no serial left", code: 20, codeName: "IllegalOperation"}
     (
@@ -393,7 +393,7 @@ fn refusal(alloc: Global, case: &str) -> Result<Refusal, AllocError> {
     })
 }
 
-/// The reply's bytes in hexadecimal digits, as the answer to request 7.
+/// The reply's bytes in hexadecimal digits, as the answer to the requestID 7.
 #[tactic(auto, unfolding(client_reply::specs::Replies::reply_frame))]
 fn digits(alloc: Global, reply: &Reply, time: Ts) -> Result<String, Fail>
     requires { FitsReply reply.now }
