@@ -1,146 +1,124 @@
-use crate::values::{holding, value};
-use bson_core::{List, Name};
+use crate::words::document_of;
+use crud_parse::read_filter;
 use query_eval::matches;
 use sqlite_items::Items;
-use std::alloc::{AllocError, Global};
+use std::alloc::Global;
 use std::test::Fail;
-use txn_types::{Cmp, Filter, Filters};
+use txn_types::Filter;
 
-fn test(alloc: Global, cmp: Cmp, operand: &str) -> Result<Filter, AllocError> {
-    Ok(Filter::Test {
-        name: Name::from_str(alloc, "a")?,
-        cmp,
-        value: value(alloc, operand)?,
-    })
+/// A document, an operand, and the comparisons of `a` with it that hold.
+const COMPARISONS: &[(&str, &str, &str)] = &[
+    ("{ _id 0 }", "null", " $eq $gte $lte"),
+    ("{ _id 0 a null }", "null", " $eq $gte $lte"),
+    ("{ _id 0 }", "1", " $ne"),
+    ("{ _id 0 a 1 }", "null", " $ne"),
+    ("{ _id 0 a 1 }", "1", " $eq $gte $lte"),
+    ("{ _id 0 a 1 }", "1L", " $eq $gte $lte"),
+    ("{ _id 0 a 1L }", "1", " $eq $gte $lte"),
+    ("{ _id 0 a 2L }", "1", " $ne $gt $gte"),
+    ("{ _id 0 a 1 }", "2L", " $ne $lt $lte"),
+    ("{ _id 0 a x }", "1", " $ne"),
+    ("{ _id 0 a x }", "y", " $ne $lt $lte"),
+    ("{ _id 0 a [ ] }", "null", " $ne"),
+    ("{ _id 0 a [ ] }", "[ ]", " $eq $gte $lte"),
+    ("{ _id 0 a [ 1 2 ] }", "1", " $eq $gt $gte $lte"),
+    ("{ _id 0 a [ 1 2 ] }", "2", " $eq $gte $lt $lte"),
+    ("{ _id 0 a [ 1 2 ] }", "[ 1 2 ]", " $eq $gte $lte"),
+    ("{ _id 0 a [ 1 2 ] }", "3", " $ne $lt $lte"),
+    ("{ _id 0 a [ 1 null ] }", "null", " $eq $gte $lte"),
+    ("{ _id 0 a [ [ 1 2 ] x ] }", "1", " $ne"),
+    ("{ _id 0 a [ [ 1 2 ] x ] }", "x", " $eq $gte $lte"),
+    ("{ _id 0 a [ [ 1 2 ] x ] }", "[ 1 2 ]", " $eq $gt $gte $lte"),
+    ("{ _id 0 a { a 1 } }", "1", " $ne"),
+    ("{ _id 0 a { a 1 } }", "{ a 1L }", " $eq $gte $lte"),
+];
+
+/// A document, two values, and which hold: `a` is one of them, is none of them, is there, isn't there.
+const MEMBERSHIP: &[(&str, &str, &str)] = &[
+    ("{ _id 0 }", "[ 1 null ]", " $in missing"),
+    ("{ _id 0 }", "[ 1 2 ]", " $nin missing"),
+    ("{ _id 0 a null }", "[ 1 null ]", " $in there"),
+    ("{ _id 0 a 1L }", "[ 1 x ]", " $in there"),
+    ("{ _id 0 a 2 }", "[ 1 x ]", " $nin there"),
+    ("{ _id 0 a [ 1 2 ] }", "[ 2 x ]", " $in there"),
+    ("{ _id 0 a [ 1 2 ] }", "[ x [ 1 2 ] ]", " $in there"),
+    ("{ _id 0 a [ 1 null ] }", "[ x null ]", " $in there"),
+    ("{ _id 0 a [ ] }", "[ x null ]", " $nin there"),
+    ("{ _id 0 a { a 1 } }", "[ 1 { a 1 } ]", " $in there"),
+];
+
+/// A document, and which hold: all of the filters that `a` is 1 or more and that it is there, one of them, none of them.
+const SEVERAL: &[(&str, &str)] = &[
+    ("{ _id 0 a 1 }", " $and $or"),
+    ("{ _id 0 a x }", " $or"),
+    ("{ _id 0 }", " $nor"),
+    ("{ _id 0 a [ 1 2 ] }", " $and $or"),
+];
+
+/// Whether the document matches the filter.
+fn matches_words(alloc: Global, document: &str, filter: &str) -> Result<bool, Fail> {
+    let filter = read_filter(alloc, &document_of(alloc, filter)?)?;
+    Ok(matches(&filter, &document_of(alloc, document)?))
 }
 
-fn exists(alloc: Global, yes: bool) -> Result<Filter, AllocError> {
-    Ok(Filter::Exists {
-        name: Name::from_str(alloc, "a")?,
-        yes,
-    })
+/// Those of the words under which `{ a { WORD OPERAND } }` is matched.
+fn matched_operators(
+    alloc: Global,
+    document: &str,
+    operators: &[&str],
+    operand: &str,
+) -> Result<String, Fail> {
+    let mut out = String::new(alloc);
+    for operator in operators {
+        let mut filter = String::new(alloc);
+        write!(filter, "{{ a {{ {operator} {operand} }} }}")?;
+        if matches_words(alloc, document, filter.as_str())? {
+            write!(out, " {operator}")?;
+        }
+    }
+    Ok(out)
 }
 
-fn two(alloc: Global, first: &str, second: &str) -> Result<List, AllocError> {
-    let mut values = Vec::new(alloc);
-    values.push(value(alloc, first)?)?;
-    values.push(value(alloc, second)?)?;
-    Ok(Items::from_vec(values))
-}
-
-/// `a` is 1 or more, and `a` is there.
-fn both(alloc: Global) -> Result<Filters, AllocError> {
-    let mut filters = Vec::new(alloc);
-    filters.push(test(alloc, Cmp::Gte, "1")?)?;
-    filters.push(exists(alloc, true)?)?;
-    Ok(Items::from_vec(filters))
+/// Those of the words whose filters are matched.
+fn matched(alloc: Global, document: &str, filters: &[(&str, &str)]) -> Result<String, Fail> {
+    let mut out = String::new(alloc);
+    for (word, filter) in filters {
+        if matches_words(alloc, document, filter)? {
+            write!(out, " {word}")?;
+        }
+    }
+    Ok(out)
 }
 
 #[test]
 fn comparisons(rt: HostRuntime) -> Result<(), Fail> {
     let alloc = rt.alloc();
-    // the field, the operand, and whether it is equal, greater, greater or equal, less, less or equal
-    for (field, operand, eq, gt, gte, lt, lte) in [
-        ("missing", "null", true, false, true, false, true),
-        ("null", "null", true, false, true, false, true),
-        ("missing", "1", false, false, false, false, false),
-        ("1", "null", false, false, false, false, false),
-        ("1", "1", true, false, true, false, true),
-        ("1", "1L", true, false, true, false, true),
-        ("1L", "1", true, false, true, false, true),
-        ("2L", "1", false, true, true, false, false),
-        ("1", "2L", false, false, false, true, true),
-        ("'x'", "1", false, false, false, false, false),
-        ("'x'", "'y'", false, false, false, true, true),
-        ("[]", "null", false, false, false, false, false),
-        ("[]", "[]", true, false, true, false, true),
-        ("[1, 2]", "1", true, true, true, false, true),
-        ("[1, 2]", "2", true, false, true, true, true),
-        ("[1, 2]", "[1, 2]", true, false, true, false, true),
-        ("[1, 2]", "3", false, false, false, true, true),
-        ("[1, null]", "null", true, false, true, false, true),
-        ("[[1, 2], 'x']", "1", false, false, false, false, false),
-        ("[[1, 2], 'x']", "'x'", true, false, true, false, true),
-        ("[[1, 2], 'x']", "[1, 2]", true, true, true, false, true),
-        ("{a: 1}", "1", false, false, false, false, false),
-        ("{a: 1}", "{a: 1L}", true, false, true, false, true),
-    ] {
-        let doc = holding(alloc, field)?;
-        assert_eq!(rt;
-            matches(&test(alloc, Cmp::Eq, operand)?, &doc),
-            eq,
-            "{field} = {operand}"
-        );
-        assert_eq!(rt;
-            matches(&test(alloc, Cmp::Ne, operand)?, &doc),
-            !eq,
-            "{field} /= {operand}"
-        );
-        assert_eq!(rt;
-            matches(&test(alloc, Cmp::Gt, operand)?, &doc),
-            gt,
-            "{field} > {operand}"
-        );
-        assert_eq!(rt;
-            matches(&test(alloc, Cmp::Gte, operand)?, &doc),
-            gte,
-            "{field} >= {operand}"
-        );
-        assert_eq!(rt;
-            matches(&test(alloc, Cmp::Lt, operand)?, &doc),
-            lt,
-            "{field} < {operand}"
-        );
-        assert_eq!(rt;
-            matches(&test(alloc, Cmp::Lte, operand)?, &doc),
-            lte,
-            "{field} <= {operand}"
-        );
+    let operators = ["$eq", "$ne", "$gt", "$gte", "$lt", "$lte"];
+    for (document, operand, expected) in COMPARISONS {
+        let holding = matched_operators(alloc, document, operators.as_slice(), operand)?;
+        assert_eq!(rt; holding.as_str(), *expected, "{document} and {operand}");
     }
     Ok(())
+}
+
+/// Which hold of the four about values and presence.
+fn membership(alloc: Global, document: &str, values: &str) -> Result<String, Fail> {
+    let operators = ["$in", "$nin"];
+    let mut out = matched_operators(alloc, document, operators.as_slice(), values)?;
+    let presence = [
+        ("there", "{ a { $exists true } }"),
+        ("missing", "{ a { $exists false } }"),
+    ];
+    out.push_str(matched(alloc, document, presence.as_slice())?.as_str())?;
+    Ok(out)
 }
 
 #[test]
 fn membership_and_presence(rt: HostRuntime) -> Result<(), Fail> {
     let alloc = rt.alloc();
-    // the field, two values, whether it is equal to one of them, whether it is there
-    for (field, first, second, among, there) in [
-        ("missing", "1", "null", true, false),
-        ("missing", "1", "2", false, false),
-        ("null", "1", "null", true, true),
-        ("1L", "1", "'x'", true, true),
-        ("2", "1", "'x'", false, true),
-        ("[1, 2]", "2", "'x'", true, true),
-        ("[1, 2]", "'x'", "[1, 2]", true, true),
-        ("[1, null]", "'x'", "null", true, true),
-        ("[]", "'x'", "null", false, true),
-        ("{a: 1}", "1", "{a: 1}", true, true),
-    ] {
-        let doc = holding(alloc, field)?;
-        let name = Name::from_str(alloc, "a")?;
-        let values = two(alloc, first, second)?;
-        assert_eq!(rt;
-            matches(&Filter::In { name, values }, &doc),
-            among,
-            "{field} in {first}, {second}"
-        );
-        let name = Name::from_str(alloc, "a")?;
-        let values = two(alloc, first, second)?;
-        assert_eq!(rt;
-            matches(&Filter::Nin { name, values }, &doc),
-            !among,
-            "{field} not in {first}, {second}"
-        );
-        assert_eq!(rt;
-            matches(&exists(alloc, true)?, &doc),
-            there,
-            "{field} is there"
-        );
-        assert_eq!(rt;
-            matches(&exists(alloc, false)?, &doc),
-            !there,
-            "{field} is missing"
-        );
+    for (document, values, expected) in MEMBERSHIP {
+        let holding = membership(alloc, document, values)?;
+        assert_eq!(rt; holding.as_str(), *expected, "{document} and {values}");
     }
     Ok(())
 }
@@ -148,34 +126,30 @@ fn membership_and_presence(rt: HostRuntime) -> Result<(), Fail> {
 #[test]
 fn several_filters(rt: HostRuntime) -> Result<(), Fail> {
     let alloc = rt.alloc();
-    // the field, whether both filters hold, whether one of them holds
-    for (field, all, some) in [
-        ("1", true, true),
-        ("'x'", false, true),
-        ("missing", false, false),
-        ("[1, 2]", true, true),
-    ] {
-        let doc = holding(alloc, field)?;
-        assert_eq!(rt;
-            matches(&Filter::And(both(alloc)?), &doc),
-            all,
-            "{field}: all"
-        );
-        assert_eq!(rt;
-            matches(&Filter::Or(both(alloc)?), &doc),
-            some,
-            "{field}: some"
-        );
-        assert_eq!(rt;
-            matches(&Filter::Nor(both(alloc)?), &doc),
-            !some,
-            "{field}: none"
-        );
+    let filters = [
+        (
+            "$and",
+            "{ $and [ { a { $gte 1 } } { a { $exists true } } ] }",
+        ),
+        ("$or", "{ $or [ { a { $gte 1 } } { a { $exists true } } ] }"),
+        (
+            "$nor",
+            "{ $nor [ { a { $gte 1 } } { a { $exists true } } ] }",
+        ),
+    ];
+    for (document, expected) in SEVERAL {
+        let holding = matched(alloc, document, filters.as_slice())?;
+        assert_eq!(rt; holding.as_str(), *expected, "{document}");
     }
-    let doc = holding(alloc, "1")?;
-    let none = || Items::from_vec(Vec::new(alloc));
-    assert!(rt; matches(&Filter::And(none()), &doc));
-    assert!(rt; !matches(&Filter::Or(none()), &doc));
-    assert!(rt; matches(&Filter::Nor(none()), &doc));
+    Ok(())
+}
+
+#[test]
+fn no_filters(rt: HostRuntime) -> Result<(), Fail> {
+    let alloc = rt.alloc();
+    let doc = document_of(alloc, "{ _id 0 a 1 }")?;
+    assert!(rt; matches(&Filter::And(Items::new(alloc)), &doc));
+    assert!(rt; !matches(&Filter::Or(Items::new(alloc)), &doc));
+    assert!(rt; matches(&Filter::Nor(Items::new(alloc)), &doc));
     Ok(())
 }

@@ -16,3 +16,5 @@ mod times;
 mod updates;
 #[cfg(test)]
 mod values;
+#[cfg(test)]
+mod words;

@@ -1,115 +1,9 @@
-use bson_core::{Doc, List, Name, Text, Value};
-use bson_text::{print, print_value};
+use crate::words::{document_of, document_text, text_of, value_of};
+use bson_core::{List, Value};
 use crud_parse::{CrudErr, read_filter, read_update};
-use sqlite_items::Items;
 use std::alloc::{AllocError, Global};
 use std::test::Fail;
 use txn_types::{Cmp, Filter, Update, UpdateKind, UpdateOp};
-
-/// A document or a list whose end isn't read yet.
-#[derive(Debug, Drop)]
-struct Open {
-    is_list: bool,
-    name: Option<Name>,
-    fields: Vec<(Name, Value)>,
-}
-
-impl Open {
-    fn new(alloc: Global, is_list: bool) -> Open {
-        Open {
-            is_list,
-            name: None,
-            fields: Vec::new(alloc),
-        }
-    }
-
-    /// Appends a value, under the name that was read in front of it.
-    fn push(&mut self, alloc: Global, value: Value) -> Result<(), AllocError> {
-        let name = match self.name.take() {
-            Some(name) => name,
-            None => Name::from_str(alloc, "")?,
-        };
-        self.fields.push((name, value))?;
-        Ok(())
-    }
-
-    /// Whether a name comes next.
-    fn wants_name(&self) -> bool {
-        !self.is_list && self.name.is_none()
-    }
-
-    fn into_value(self, alloc: Global) -> Result<Value, AllocError> {
-        let Open {
-            is_list,
-            fields,
-            ..
-        } = self;
-        if is_list {
-            let values: Vec<Value> = fields.into_iter().map(|field| field.1).collect(alloc)?;
-            return Ok(Value::List(Items::from_vec(values)));
-        }
-        Ok(Value::Doc(Items::from_vec(fields)))
-    }
-}
-
-/// A value that holds no others: `null`, `true`, `false`, an int32, an int64 with an `L` behind it, or else a text.
-fn leaf(alloc: Global, word: &str) -> Result<Value, AllocError> {
-    if word == "null" {
-        return Ok(Value::Null);
-    }
-    if word == "true" || word == "false" {
-        return Ok(Value::Bool(word == "true"));
-    }
-    if let Ok(number) = word.parse::<i32>() {
-        return Ok(Value::Int(number));
-    }
-    if let Some(digits) = word.strip_suffix('L')
-        && let Ok(number) = digits.parse::<i64>()
-    {
-        return Ok(Value::Long(number));
-    }
-    Ok(Value::Text(Text::new(String::from_str(alloc, word)?)))
-}
-
-/// The value that the words are, with spaces between all of them, as `{ a [ 1 2L ] }`.
-fn value_of(alloc: Global, words: &str) -> Result<Value, AllocError> {
-    let mut opens: Vec<Open> = Vec::new(alloc);
-    let mut last = Value::Null;
-    for word in words.split_whitespace() {
-        if word == "{" || word == "[" {
-            opens.push(Open::new(alloc, word == "["))?;
-            continue;
-        }
-        let value = if word == "}" || word == "]" {
-            match opens.pop() {
-                Some(open) => open.into_value(alloc)?,
-                None => Value::Null,
-            }
-        } else {
-            if let Some(open) = opens.last_mut()
-                && open.wants_name()
-                && Name::fits(word)
-            {
-                open.name = Some(Name::from_str(alloc, word)?);
-                continue;
-            }
-            leaf(alloc, word)?
-        };
-        match opens.last_mut() {
-            Some(open) => open.push(alloc, value)?,
-            None => last = value,
-        }
-    }
-    Ok(last)
-}
-
-/// The text of a value.
-fn text_of(alloc: Global, value: &Value) -> Result<String, AllocError> {
-    match print_value(alloc, value) {
-        Ok(text) => Ok(text),
-        Err(_) => Err(AllocError),
-    }
-}
 
 fn put_test(alloc: Global, out: &mut String, cmp: Cmp, value: &Value) -> Result<(), AllocError> {
     let word = match cmp {
@@ -185,9 +79,7 @@ fn put_op(alloc: Global, out: &mut String, op: &UpdateOp) -> Result<(), AllocErr
 fn put_update(alloc: Global, out: &mut String, update: &Update) -> Result<(), AllocError> {
     match update {
         Update::Replace(doc) => {
-            let Ok(doc) = print(alloc, doc) else {
-                return Err(AllocError);
-            };
+            let doc = document_text(alloc, doc)?;
             write!(out, "replace {}", doc.as_str())
         }
         Update::Ops(ops) => {
@@ -213,12 +105,7 @@ fn put_error(out: &mut String, error: &CrudErr) -> Result<(), AllocError> {
 /// What the document of these words is read as, as a filter.
 fn filter_text(alloc: Global, words: &str) -> Result<String, AllocError> {
     let mut out = String::new(alloc);
-    let empty: Doc = Items::new(alloc);
-    let read = match value_of(alloc, words)? {
-        Value::Doc(doc) => read_filter(alloc, &doc),
-        _ => read_filter(alloc, &empty),
-    };
-    match read {
+    match read_filter(alloc, &document_of(alloc, words)?) {
         Ok(filter) => put_filter(alloc, &mut out, &filter)?,
         Err(error) => put_error(&mut out, &error)?,
     }

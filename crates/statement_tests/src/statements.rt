@@ -1,12 +1,14 @@
 use crate::values::document;
-use bson_core::{Doc, Name, Value, get};
+use crate::words::{document_of, value_of};
+use bson_core::{Doc, Value, get};
+use crud_parse::{read_filter, read_update};
 use query_eval::{EvalErr, eval, merge};
 use sqlite_items::Items;
 use std::alloc::{AllocError, Global};
 use std::test::Fail;
 use txn_types::{
-    Cmp, DeleteItem, Filter, Id, InsertItem, InsertItems, Ns, Op, OpErr, OpReply, Update,
-    UpdateItem, UpdateKind, UpdateOp, What, Write, Writes,
+    DeleteItem, Id, InsertItem, InsertItems, Ns, Op, OpErr, OpReply, UpdateItem, What, Write,
+    Writes,
 };
 
 fn ns(alloc: Global) -> Result<Ns, Fail> {
@@ -34,48 +36,49 @@ fn seed(alloc: Global, ids: &[i32]) -> Result<Writes, Fail> {
     Ok(writes)
 }
 
-/// Of a field `a` or `_id`, that it compares so with the number.
-fn test(alloc: Global, name: &str, cmp: Cmp, number: i32) -> Result<Filter, AllocError> {
-    let name = if name == "a" {
-        Name::from_str(alloc, "a")?
-    } else {
-        Name::from_str(alloc, "_id")?
-    };
-    Ok(Filter::Test {
-        name,
-        cmp,
-        value: Value::Int(number),
-    })
-}
-
-fn find(alloc: Global, filter: Filter, down: bool, limit: u64) -> Result<Op, Fail> {
+fn find(alloc: Global, filter: &str, down: bool, limit: u64) -> Result<Op, Fail> {
     Ok(Op::Find {
         ns: ns(alloc)?,
-        filter,
+        filter: read_filter(alloc, &document_of(alloc, filter)?)?,
         down,
         limit,
     })
 }
 
-/// An item that adds to `a`.
-fn adding(
-    alloc: Global,
-    index: u32,
-    filter: Filter,
-    by: i32,
-    many: bool,
-) -> Result<UpdateItem, AllocError> {
-    let mut ops = Vec::new(alloc);
-    ops.push(UpdateOp {
-        kind: UpdateKind::Inc,
-        name: Name::from_str(alloc, "a")?,
-        value: Value::Int(by),
-    })?;
-    Ok(UpdateItem {
-        index,
-        filter,
-        update: Update::Ops(Items::from_vec(ops)),
-        many,
+/// An item of an update: its place, its filter, what is done, and whether to all that match.
+type Change = (u32, &'static str, &'static str, bool);
+
+fn update(alloc: Global, changes: &[Change]) -> Result<Op, Fail> {
+    let mut items = Vec::new(alloc);
+    for (index, filter, update, many) in changes {
+        items.push(UpdateItem {
+            index: *index,
+            filter: read_filter(alloc, &document_of(alloc, filter)?)?,
+            update: read_update(alloc, &value_of(alloc, update)?)?,
+            many: *many,
+        })?;
+    }
+    Ok(Op::Update {
+        ns: ns(alloc)?,
+        items: Items::from_vec(items),
+    })
+}
+
+/// An item of a delete: its place, its filter, and whether all that match go.
+type Removal = (u32, &'static str, bool);
+
+fn delete(alloc: Global, removals: &[Removal]) -> Result<Op, Fail> {
+    let mut items = Vec::new(alloc);
+    for (index, filter, many) in removals {
+        items.push(DeleteItem {
+            index: *index,
+            filter: read_filter(alloc, &document_of(alloc, filter)?)?,
+            many: *many,
+        })?;
+    }
+    Ok(Op::Delete {
+        ns: ns(alloc)?,
+        items: Items::from_vec(items),
     })
 }
 
@@ -86,219 +89,211 @@ fn number(doc: &Doc, name: &str) -> i32 {
     }
 }
 
-/// The ids of the documents found; none of a count.
-fn found(alloc: Global, reply: &OpReply) -> Result<Vec<i32>, AllocError> {
-    let mut ids = Vec::new(alloc);
-    if let OpReply::Rows { docs, .. } = reply {
-        for doc in docs.as_slice() {
-            ids.push(number(doc, "_id"))?;
+/// Appends the ids of the documents found, or how many were met and how many were changed.
+fn put_reply(out: &mut String, reply: &OpReply) -> Result<(), AllocError> {
+    match reply {
+        OpReply::Count { n, modified } => write!(out, "{n} met, {modified} changed")?,
+        OpReply::Rows { docs, .. } => {
+            out.push_str("found")?;
+            for doc in docs.as_slice() {
+                write!(out, " {}", number(doc, "_id"))?;
+            }
         }
     }
-    Ok(ids)
+    Ok(())
 }
 
-/// The id and the `a` of each write, -1 where it deletes.
-fn written(alloc: Global, writes: &Writes) -> Result<Vec<(i32, i32)>, AllocError> {
-    let mut all = Vec::new(alloc);
-    for write in writes.as_slice() {
-        match write {
-            Write::Put { doc, .. } => all.push((number(doc, "_id"), number(doc, "a")))?,
-            Write::Delete { .. } => all.push((-1, -1))?,
-        }
+/// Appends the id, and the `a` of the document that is put, or that it is deleted.
+fn put_write(out: &mut String, write: &Write) -> Result<(), AllocError> {
+    match write {
+        Write::Put { doc, .. } => write!(out, ", {}:{}", number(doc, "_id"), number(doc, "a")),
+        Write::Delete {
+            id: Id::Num(id),
+            ..
+        } => write!(out, ", {id} deleted"),
+        Write::Delete { .. } => out.push_str(", another deleted"),
     }
-    Ok(all)
 }
+
+/// Appends the item, the id and the reason.
+fn put_refusal(out: &mut String, refusal: &OpErr) -> Result<(), AllocError> {
+    let what = match refusal.what {
+        What::Duplicate => "Duplicate",
+        What::NotNumber => "NotNumber",
+        What::Overflow => "Overflow",
+        What::Immutable => "Immutable",
+        What::TooLarge => "TooLarge",
+    };
+    match &refusal.id {
+        Id::Num(id) => write!(out, "item {}, id {id}: {what}", refusal.index),
+        _ => write!(out, "item {}, another id: {what}", refusal.index),
+    }
+}
+
+/// What the operation answers and writes over the own writes, or why it is refused.
+fn told(alloc: Global, op: &Op, own: &Writes) -> Result<String, AllocError> {
+    let mut out = String::new(alloc);
+    match eval(alloc, op, &[], own) {
+        Ok((reply, writes)) => {
+            put_reply(&mut out, &reply)?;
+            for write in writes.as_slice() {
+                put_write(&mut out, write)?;
+            }
+        }
+        Err(EvalErr::Op(refusal)) => put_refusal(&mut out, &refusal)?,
+        Err(EvalErr::Memory) => return Err(AllocError),
+    }
+    Ok(out)
+}
+
+/// The ids that stand, those that are inserted, and what becomes of it.
+const INSERTS: &[(&[i32], &[i32], &str)] = &[
+    (&[], &[3, 1, 2], "3 met, 0 changed, 1:10, 2:20, 3:30"),
+    (&[3, 1, 2], &[4, 3], "item 1, id 3: Duplicate"),
+    (&[3, 1, 2], &[5, 5], "item 1, id 5: Duplicate"),
+];
 
 #[test]
 fn inserts(rt: HostRuntime) -> Result<(), Fail> {
     let alloc = rt.alloc();
-    let (reply, writes) = eval(alloc, &insert(alloc, &[3, 1, 2])?, &[], &Writes::new(alloc))?;
-    assert!(rt; matches!(reply, OpReply::Count { n: 3, modified: 0 }));
-    assert_eq!(rt;
-        written(alloc, &writes)?.as_slice(),
-        [(1, 10), (2, 20), (3, 30)].as_slice()
-    );
-    let again = eval(alloc, &insert(alloc, &[4, 3])?, &[], &writes);
-    assert!(rt;
-        matches!(
-            again,
-            Err(EvalErr::Op(OpErr {
-                index: 1,
-                id: Id::Num(3),
-                what: What::Duplicate
-            }))
-        )
-    );
-    let twice = eval(alloc, &insert(alloc, &[5, 5])?, &[], &writes);
-    assert!(rt;
-        matches!(
-            twice,
-            Err(EvalErr::Op(OpErr {
-                index: 1,
-                id: Id::Num(5),
-                what: What::Duplicate
-            }))
-        )
-    );
+    for (standing, ids, expected) in INSERTS {
+        let own = seed(alloc, standing)?;
+        assert_eq!(rt;
+            told(alloc, &insert(alloc, ids)?, &own)?.as_str(),
+            *expected
+        );
+    }
     Ok(())
 }
+
+/// A filter, whether falling, how many at most, and what is found of the ids 1 to 4.
+const FINDS: &[(&str, bool, u64, &str)] = &[
+    ("{ a { $gte 0 } }", false, 0, "found 1 2 3 4"),
+    ("{ a { $gte 0 } }", true, 0, "found 4 3 2 1"),
+    ("{ a { $gte 0 } }", false, 2, "found 1 2"),
+    ("{ a { $gte 0 } }", true, 2, "found 4 3"),
+    ("{ a { $gte 20 } }", false, 1, "found 2"),
+    ("{ a { $gte 20 } }", true, 9, "found 4 3 2"),
+    ("{ a { $gte 50 } }", true, 1, "found"),
+];
 
 #[test]
 fn finds(rt: HostRuntime) -> Result<(), Fail> {
     let alloc = rt.alloc();
-    let own = seed(alloc, &[4, 2, 1, 3])?;
-    for (least, down, limit, wanted) in [
-        (0, false, 0, [1, 2, 3, 4].as_slice()),
-        (0, true, 0, [4, 3, 2, 1].as_slice()),
-        (0, false, 2, [1, 2].as_slice()),
-        (0, true, 2, [4, 3].as_slice()),
-        (20, false, 1, [2].as_slice()),
-        (20, true, 9, [4, 3, 2].as_slice()),
-        (50, true, 1, [].as_slice()),
-    ] {
-        let op = find(alloc, test(alloc, "a", Cmp::Gte, least)?, down, limit)?;
-        let (reply, writes) = eval(alloc, &op, &[], &own)?;
+    let own = seed(alloc, [4, 2, 1, 3].as_slice())?;
+    for (filter, down, limit, expected) in FINDS {
+        let op = find(alloc, filter, *down, *limit)?;
         assert_eq!(rt;
-            found(alloc, &reply)?.as_slice(),
-            wanted,
-            "from {least}, {limit} of them"
+            told(alloc, &op, &own)?.as_str(),
+            *expected,
+            "{filter}, {limit} of them"
         );
-        assert!(rt; writes.as_slice().is_empty());
     }
     Ok(())
 }
 
-#[test]
-fn updates_of_one_and_of_many(rt: HostRuntime) -> Result<(), Fail> {
-    let alloc = rt.alloc();
-    let own = seed(alloc, &[1, 2, 3])?;
-    for (many, by, met, changed, wanted) in [
-        (false, 1, 1, 1, [(2, 21)].as_slice()),
-        (true, 1, 2, 2, [(2, 21), (3, 31)].as_slice()),
-        (true, 0, 2, 0, [].as_slice()),
-    ] {
-        let mut items = Vec::new(alloc);
-        items.push(adding(alloc, 0, test(alloc, "a", Cmp::Gt, 10)?, by, many)?)?;
-        let items = Items::from_vec(items);
-        let op = Op::Update {
-            ns: ns(alloc)?,
-            items,
-        };
-        let (reply, writes) = eval(alloc, &op, &[], &own)?;
-        assert!(rt;
-            matches!(reply, OpReply::Count { n, modified } if n == met && modified == changed)
-        );
-        assert_eq!(rt; written(alloc, &writes)?.as_slice(), wanted);
-    }
-    Ok(())
-}
-
-#[test]
-fn several_items_meet_one_row(rt: HostRuntime) -> Result<(), Fail> {
-    let alloc = rt.alloc();
-    let own = seed(alloc, &[1, 2])?;
+/// The ids that stand, the items of an update, and what becomes of it.
+const UPDATES: &[(&[i32], &[Change], &str)] = &[
+    // of one and of many
+    (
+        &[1, 2, 3],
+        &[(0, "{ a { $gt 10 } }", "{ $inc { a 1 } }", false)],
+        "1 met, 1 changed, 2:21",
+    ),
+    (
+        &[1, 2, 3],
+        &[(0, "{ a { $gt 10 } }", "{ $inc { a 1 } }", true)],
+        "2 met, 2 changed, 2:21, 3:31",
+    ),
+    (
+        &[1, 2, 3],
+        &[(0, "{ a { $gt 10 } }", "{ $inc { a 0 } }", true)],
+        "2 met, 0 changed",
+    ),
     // the first item makes 11 of 10, which the second then meets
-    let mut items = Vec::new(alloc);
-    items.push(adding(alloc, 0, test(alloc, "_id", Cmp::Eq, 1)?, 1, false)?)?;
-    items.push(adding(alloc, 1, test(alloc, "a", Cmp::Eq, 11)?, 4, true)?)?;
-    let items = Items::from_vec(items);
-    let op = Op::Update {
-        ns: ns(alloc)?,
-        items,
-    };
-    let (reply, writes) = eval(alloc, &op, &[], &own)?;
-    assert!(rt; matches!(reply, OpReply::Count { n: 2, modified: 2 }));
-    assert_eq!(rt; written(alloc, &writes)?.as_slice(), [(1, 15)].as_slice());
-    // what a delete took away, a later item doesn't meet
-    let mut items = Vec::new(alloc);
-    items.push(DeleteItem {
-        index: 0,
-        filter: test(alloc, "a", Cmp::Gt, 0)?,
-        many: false,
-    })?;
-    items.push(DeleteItem {
-        index: 1,
-        filter: test(alloc, "a", Cmp::Gt, 0)?,
-        many: true,
-    })?;
-    items.push(DeleteItem {
-        index: 2,
-        filter: test(alloc, "a", Cmp::Gt, 0)?,
-        many: true,
-    })?;
-    let items = Items::from_vec(items);
-    let op = Op::Delete {
-        ns: ns(alloc)?,
-        items,
-    };
-    let (reply, writes) = eval(alloc, &op, &[], &own)?;
-    assert!(rt; matches!(reply, OpReply::Count { n: 2, modified: 0 }));
-    assert_eq!(rt; writes.as_slice().len(), 2);
-    Ok(())
-}
+    (
+        &[1, 2],
+        &[
+            (0, "{ _id 1 }", "{ $inc { a 1 } }", false),
+            (1, "{ a 11 }", "{ $inc { a 4 } }", true),
+        ],
+        "2 met, 2 changed, 1:15",
+    ),
+    // a refusal names its item
+    (
+        &[1, 2],
+        &[(7, "{ _id 1 }", "{ $set { _id 2 } }", false)],
+        "item 7, id 1: Immutable",
+    ),
+];
 
 #[test]
-fn refusals_name_their_items(rt: HostRuntime) -> Result<(), Fail> {
+fn updates(rt: HostRuntime) -> Result<(), Fail> {
     let alloc = rt.alloc();
-    let own = seed(alloc, &[1, 2])?;
-    let mut ops = Vec::new(alloc);
-    ops.push(UpdateOp {
-        kind: UpdateKind::Set,
-        name: Name::from_str(alloc, "_id")?,
-        value: Value::Int(2),
-    })?;
-    let update = Update::Ops(Items::from_vec(ops));
-    let mut items = Vec::new(alloc);
-    items.push(UpdateItem {
-        index: 7,
-        filter: test(alloc, "_id", Cmp::Eq, 1)?,
-        update,
-        many: false,
-    })?;
-    let items = Items::from_vec(items);
-    let op = Op::Update {
-        ns: ns(alloc)?,
-        items,
-    };
-    let refused = eval(alloc, &op, &[], &own);
-    assert!(rt;
-        matches!(
-            refused,
-            Err(EvalErr::Op(OpErr {
-                index: 7,
-                id: Id::Num(1),
-                what: What::Immutable
-            }))
-        )
-    );
+    for (standing, changes, expected) in UPDATES {
+        let own = seed(alloc, standing)?;
+        assert_eq!(rt;
+            told(alloc, &update(alloc, changes)?, &own)?.as_str(),
+            *expected
+        );
+    }
     Ok(())
 }
 
-/// What the two shards reply.
-fn replies(alloc: Global, op: &Op, odd: &Writes, even: &Writes) -> Result<Vec<OpReply>, Fail> {
+/// The items of a delete, and what becomes of it where the ids 1 and 2 stand.
+const DELETES: &[(&[Removal], &str)] = &[
+    // what a delete took away, a later item doesn't meet
+    (
+        &[
+            (0, "{ a { $gt 0 } }", false),
+            (1, "{ a { $gt 0 } }", true),
+            (2, "{ a { $gt 0 } }", true),
+        ],
+        "2 met, 0 changed, 1 deleted, 2 deleted",
+    ),
+];
+
+#[test]
+fn deletes(rt: HostRuntime) -> Result<(), Fail> {
+    let alloc = rt.alloc();
+    let own = seed(alloc, [1, 2].as_slice())?;
+    for (removals, expected) in DELETES {
+        assert_eq!(rt;
+            told(alloc, &delete(alloc, removals)?, &own)?.as_str(),
+            *expected
+        );
+    }
+    Ok(())
+}
+
+/// Whether falling, how many at most, and what is found where one shard has 1, 3 and 5 and the other 2 and 4.
+const MERGED: &[(bool, u64, &str)] = &[
+    (false, 0, "found 1 2 3 4 5"),
+    (true, 0, "found 5 4 3 2 1"),
+    (false, 3, "found 1 2 3"),
+    (true, 2, "found 5 4"),
+];
+
+/// The merged reply of two shards.
+fn merged(alloc: Global, op: &Op, odd: &Writes, even: &Writes) -> Result<String, Fail> {
     let mut parts = Vec::new(alloc);
     let (reply, _) = eval(alloc, op, &[], odd)?;
     parts.push(reply)?;
     let (reply, _) = eval(alloc, op, &[], even)?;
     parts.push(reply)?;
-    Ok(parts)
+    let mut out = String::new(alloc);
+    put_reply(&mut out, &merge(alloc, op, parts.as_slice())?)?;
+    Ok(out)
 }
 
 #[test]
 fn replies_of_shards_are_merged(rt: HostRuntime) -> Result<(), Fail> {
     let alloc = rt.alloc();
-    let odd = seed(alloc, &[1, 3, 5])?;
-    let even = seed(alloc, &[2, 4])?;
-    for (down, limit, wanted) in [
-        (false, 0, [1, 2, 3, 4, 5].as_slice()),
-        (true, 0, [5, 4, 3, 2, 1].as_slice()),
-        (false, 3, [1, 2, 3].as_slice()),
-        (true, 2, [5, 4].as_slice()),
-    ] {
-        let op = find(alloc, test(alloc, "a", Cmp::Gt, 0)?, down, limit)?;
-        let parts = replies(alloc, &op, &odd, &even)?;
-        let whole = merge(alloc, &op, parts.as_slice())?;
-        assert_eq!(rt; found(alloc, &whole)?.as_slice(), wanted);
+    let odd = seed(alloc, [1, 3, 5].as_slice())?;
+    let even = seed(alloc, [2, 4].as_slice())?;
+    for (down, limit, expected) in MERGED {
+        let op = find(alloc, "{ a { $gt 0 } }", *down, *limit)?;
+        assert_eq!(rt; merged(alloc, &op, &odd, &even)?.as_str(), *expected);
     }
     Ok(())
 }
@@ -313,7 +308,7 @@ fn counts_of_shards_are_added(rt: HostRuntime) -> Result<(), Fail> {
             modified: 3,
         },
     ];
-    let whole = merge(alloc, &insert(alloc, &[])?, counts.as_slice())?;
+    let whole = merge(alloc, &insert(alloc, [].as_slice())?, counts.as_slice())?;
     assert!(rt;
         matches!(
             whole,

@@ -1,107 +1,138 @@
-use crate::values::{document, only, text};
-use bson_core::{Doc, Name, Value, encode, get};
+use crate::words::{document_of, document_text, value_of};
+use bson_core::Name;
 use query_eval::{ApplyErr, apply};
 use sqlite_items::Items;
 use std::alloc::{AllocError, Global};
 use std::test::Fail;
 use txn_types::{Update, UpdateKind, UpdateOp};
 
-fn one(alloc: Global, kind: UpdateKind, name: Name, value: Value) -> Result<Update, AllocError> {
-    let mut ops = Vec::new(alloc);
-    ops.push(UpdateOp { kind, name, value })?;
-    Ok(Update::Ops(Items::from_vec(ops)))
-}
-
-fn on_a(alloc: Global, kind: UpdateKind, value: Value) -> Result<Update, AllocError> {
-    one(alloc, kind, Name::from_str(alloc, "a")?, value)
-}
-
-fn bytes(alloc: Global, doc: &Doc) -> Result<Vec<u8>, Fail> {
-    let mut out = Vec::new(alloc);
-    encode(alloc, doc, &mut out)?;
-    Ok(out)
-}
-
-#[test]
-fn sums(rt: HostRuntime) -> Result<(), Fail> {
-    let alloc = rt.alloc();
-    let by_one = on_a(alloc, UpdateKind::Inc, Value::Int(1))?;
-    let new = apply(alloc, &by_one, &document(alloc, 1, Value::Int(1))?)?;
-    assert!(rt; matches!(get(&new, "a"), Some(Value::Int(2))));
-    let new = apply(
-        alloc,
-        &by_one,
-        &document(alloc, 1, Value::Int(2_147_483_647))?,
-    )?;
-    assert!(rt; matches!(get(&new, "a"), Some(Value::Long(2_147_483_648))));
-    let new = apply(alloc, &by_one, &document(alloc, 1, Value::Long(7))?)?;
-    assert!(rt; matches!(get(&new, "a"), Some(Value::Long(8))));
-    let most = document(alloc, 1, Value::Long(9_223_372_036_854_775_807))?;
-    assert!(rt; matches!(apply(alloc, &by_one, &most), Err(ApplyErr::Overflow)));
-    let string = document(alloc, 1, text(alloc, "x")?)?;
-    assert!(rt; matches!(apply(alloc, &by_one, &string), Err(ApplyErr::NotNumber)));
-    let by_null = on_a(alloc, UpdateKind::Inc, Value::Null)?;
-    let one = document(alloc, 1, Value::Int(1))?;
-    assert!(rt; matches!(apply(alloc, &by_null, &one), Err(ApplyErr::NotNumber)));
-    let by_long = on_a(alloc, UpdateKind::Inc, Value::Long(-1))?;
-    let new = apply(alloc, &by_long, &one)?;
-    assert!(rt; matches!(get(&new, "a"), Some(Value::Long(0))));
-    let new = apply(alloc, &by_long, &only(alloc, Value::Null)?);
-    assert!(rt; matches!(new, Err(ApplyErr::NotNumber)));
-    Ok(())
-}
-
-#[test]
-fn fields_keep_their_places(rt: HostRuntime) -> Result<(), Fail> {
-    let alloc = rt.alloc();
-    let doc = document(alloc, 1, Value::Int(1))?;
-    let set = one(
-        alloc,
-        UpdateKind::Set,
-        Name::from_str(alloc, "_id")?,
-        Value::Long(1),
-    )?;
-    let new = apply(alloc, &set, &doc)?;
-    assert!(rt; matches!(new.as_slice(), [(_, Value::Long(1)), (_, Value::Int(1))]));
-    let unset = on_a(alloc, UpdateKind::Unset, Value::Null)?;
-    assert_eq!(rt; apply(alloc, &unset, &doc)?.as_slice().len(), 1);
-    let inc = one(
-        alloc,
+/// What is done to a field, the field, the value; a document, and what becomes of it, or why nothing does.
+const CHANGES: &[(UpdateKind, &str, &str, &str, &str)] = &[
+    // sums are of the wider kind, and grow into it
+    (
         UpdateKind::Inc,
-        Name::from_str(alloc, "b")?,
-        Value::Long(3),
-    )?;
-    let new = apply(alloc, &inc, &doc)?;
-    assert!(rt; matches!(new.as_slice(), [_, _, (_, Value::Long(3))]));
+        "a",
+        "1",
+        "{ _id 1 a 1 }",
+        "{\"_id\": 1, \"a\": 2}",
+    ),
+    (
+        UpdateKind::Inc,
+        "a",
+        "1",
+        "{ _id 1 a 2147483647 }",
+        "{\"_id\": 1, \"a\": 2147483648L}",
+    ),
+    (
+        UpdateKind::Inc,
+        "a",
+        "1",
+        "{ _id 1 a 7L }",
+        "{\"_id\": 1, \"a\": 8L}",
+    ),
+    (
+        UpdateKind::Inc,
+        "a",
+        "1",
+        "{ _id 1 a 9223372036854775807L }",
+        "Overflow",
+    ),
+    (UpdateKind::Inc, "a", "1", "{ _id 1 a x }", "NotNumber"),
+    (UpdateKind::Inc, "a", "null", "{ _id 1 a 1 }", "NotNumber"),
+    (
+        UpdateKind::Inc,
+        "a",
+        "-1L",
+        "{ _id 1 a 1 }",
+        "{\"_id\": 1, \"a\": 0L}",
+    ),
+    (UpdateKind::Inc, "a", "-1L", "{ a null }", "NotNumber"),
+    // fields keep their places, and new ones come last
+    (
+        UpdateKind::Set,
+        "_id",
+        "1L",
+        "{ _id 1 a 1 }",
+        "{\"_id\": 1L, \"a\": 1}",
+    ),
+    (
+        UpdateKind::Unset,
+        "a",
+        "null",
+        "{ _id 1 a 1 }",
+        "{\"_id\": 1}",
+    ),
+    (
+        UpdateKind::Inc,
+        "b",
+        "3L",
+        "{ _id 1 a 1 }",
+        "{\"_id\": 1, \"a\": 1, \"b\": 3L}",
+    ),
+    // the id stays
+    (UpdateKind::Set, "_id", "2", "{ _id 1 a 1 }", "Immutable"),
+    (
+        UpdateKind::Unset,
+        "_id",
+        "null",
+        "{ _id 1 a 1 }",
+        "Immutable",
+    ),
+];
+
+/// A document that takes the place of another, that one, and what becomes of it, or why nothing does.
+const REPLACEMENTS: &[(&str, &str, &str)] = &[
+    ("{ _id 2 a null }", "{ _id 1 a 1 }", "Immutable"),
+    ("{ a 5 }", "{ _id 1 a 1 }", "{\"_id\": 1, \"a\": 5}"),
+];
+
+/// What becomes of the document, or why nothing does.
+fn applied(alloc: Global, update: &Update, document: &str) -> Result<String, AllocError> {
+    let why = match apply(alloc, update, &document_of(alloc, document)?) {
+        Ok(new) => return document_text(alloc, &new),
+        Err(ApplyErr::NotNumber) => "NotNumber",
+        Err(ApplyErr::Overflow) => "Overflow",
+        Err(ApplyErr::Immutable) => "Immutable",
+        Err(ApplyErr::TooLarge) => "TooLarge",
+        Err(ApplyErr::Memory) => return Err(AllocError),
+    };
+    String::from_str(alloc, why)
+}
+
+/// What becomes of the document by one change, or why nothing does.
+fn changed(
+    alloc: Global,
+    kind: UpdateKind,
+    name: &str,
+    value: &str,
+    document: &str,
+) -> Result<String, AllocError> {
+    let mut ops = Vec::new(alloc);
+    if Name::fits(name) {
+        let name = Name::from_str(alloc, name)?;
+        let value = value_of(alloc, value)?;
+        ops.push(UpdateOp { kind, name, value })?;
+    }
+    applied(alloc, &Update::Ops(Items::from_vec(ops)), document)
+}
+
+#[test]
+fn fields_are_changed(rt: HostRuntime) -> Result<(), Fail> {
+    let alloc = rt.alloc();
+    for (kind, name, value, document, expected) in CHANGES {
+        let new = changed(alloc, *kind, name, value, document)?;
+        assert_eq!(rt; new.as_str(), *expected, "{name}, {value} and {document}");
+    }
     Ok(())
 }
 
 #[test]
-fn the_id_stays(rt: HostRuntime) -> Result<(), Fail> {
+fn documents_are_replaced(rt: HostRuntime) -> Result<(), Fail> {
     let alloc = rt.alloc();
-    let doc = document(alloc, 1, Value::Int(1))?;
-    let set = one(
-        alloc,
-        UpdateKind::Set,
-        Name::from_str(alloc, "_id")?,
-        Value::Int(2),
-    )?;
-    assert!(rt; matches!(apply(alloc, &set, &doc), Err(ApplyErr::Immutable)));
-    let unset = one(
-        alloc,
-        UpdateKind::Unset,
-        Name::from_str(alloc, "_id")?,
-        Value::Null,
-    )?;
-    assert!(rt; matches!(apply(alloc, &unset, &doc), Err(ApplyErr::Immutable)));
-    let other = Update::Replace(document(alloc, 2, Value::Null)?);
-    assert!(rt; matches!(apply(alloc, &other, &doc), Err(ApplyErr::Immutable)));
-    let replace = Update::Replace(only(alloc, Value::Int(5))?);
-    let new = apply(alloc, &replace, &doc)?;
-    let wanted = document(alloc, 1, Value::Int(5))?;
-    assert_eq!(rt;
-        bytes(alloc, &new)?.as_slice(),
-        bytes(alloc, &wanted)?.as_slice()
-    );
+    for (replacement, document, expected) in REPLACEMENTS {
+        let update = Update::Replace(document_of(alloc, replacement)?);
+        let new = applied(alloc, &update, document)?;
+        assert_eq!(rt; new.as_str(), *expected, "{replacement} and {document}");
+    }
     Ok(())
 }
