@@ -5,20 +5,18 @@
 SHELL := bash
 .SHELLFLAGS := -o pipefail -c
 
-# Plays the example of docs/EXAMPLES.md, unproved, from a fresh clone, and prints what is asked and what comes back.
+# Plays the example of docs/EXAMPLES.md from a fresh clone, and prints each command with its reply.
 demo:
-	@tools/mtx-hex --read < examples/bank.play
-	@echo "the program is compiled, which takes half a minute .."
-	@cd crates/mtx && rt try -- play < ../../examples/bank.play | ../../tools/mtx-hex --read
+	@tools/mtx-play examples/bank.json
 
-# Plays one insert, unproved, and prints the bytes that come back.
-first-insert:
-	cd crates/mtx && rt try -- play < ../../examples/first-insert.play
-
-# Plays commands of one's own, unproved: `make play FILE=mine.json`, with a command in JSON on each line.
+# Plays commands of one's own, one in JSON on each line: `make play FILE=mine.json`. TIMES=--times shows the times of replies.
 FILE ?= examples/bank.json
 play:
-	@tools/mtx-hex --line 1 < $(FILE) | (cd crates/mtx && rt try -- play) | tools/mtx-hex --read
+	@tools/mtx-play $(TIMES) $(FILE)
+
+# Plays one insert, and prints the bytes that come back.
+first-insert:
+	cd crates/mtx && rt try -- play < ../../examples/first-insert.play
 
 # The gate: every proof, every wrong body that must be refused, every test, and the program as two compilers build it.
 test:
