@@ -4,8 +4,6 @@
 
 pub mod laws;
 mod offline;
-#[cfg(test)]
-mod rows;
 mod status;
 mod stdio;
 #[cfg(test)]

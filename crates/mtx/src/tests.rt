@@ -1,5 +1,4 @@
 use crate::offline::offline;
-use crate::rows::ROWS;
 use crate::status::Status;
 use outside_core::{MemSink, MemSource, Sink, Source};
 use std::alloc::{AllocError, Global};
@@ -16,33 +15,6 @@ const REPLY: &str = "reply 1 a60000000000000007000000dd0700000000000000\
 0324636c757374657254696d65005800000011636c757374657254696d65000100000001000000\
 037369676e6174757265003300000005686173680014000000000000000000000000000000000000000000000000\
 126b65794964000000000000000000000000\n";
-
-/// The list of commits behind it.
-const DUMP: &str = "dump 1\ncommit 1.1 tag 0.1.1 read 0.0\n\
-write 0 d.c 15000000105f696400010000001061000500000000\n";
-
-/// The insert of `{_id: 1, a: 0}` on connection 0, and behind it an insert of `{_id: 1}` with the 1 as an int64.
-const TWO_INSERTS: &str =
-    "client 0 5b0000000100000000000000dd07000000000000004600000002696e736572740002000000630004646f63756d656e7473001d0\
-0000003300015000000105f69640001000000106100000000000000022464620002000000640000\n\
-client 0 580000000200000000000000dd07000000000000004300000002696e736572740002000000630004646f63756d656e7473001a0\
-0000003300012000000125f69640001000000000000000000022464620002000000640000\n";
-
-/// The reply to the first, and the refusal of the second with code 11000.
-const TWO_REPLIES: &str =
-    "reply 0 a60000000000000001000000dd070000000000000091000000106e0001000000106f6b0001000000116f7065726174696f6e5469\
-6d650001000000010000000324636c757374657254696d65005800000011636c757374657254696d65000100000001000000037369676e61\
-74757265003300000005686173680014000000000000000000000000000000000000000000000000126b6579496400000000000000000000\
-0000\n\
-reply 0 f40000000000000002000000dd0700000000000000df000000106f6b0000000000026572726d736700240000006475706c696361\
-7465206b6579207b225f6964223a20317d20617420696e64657820300010636f646500f82a000002636f64654e616d65000d000000447570\
-6c69636174654b657900116f7065726174696f6e54696d650001000000010000000324636c757374657254696d65005800000011636c7573\
-74657254696d65000100000001000000037369676e6174757265003300000005686173680014000000000000000000000000000000000000\
-000000000000126b65794964000000000000000000000000\n";
-
-/// The list of commits behind them, which holds the first alone.
-const FIRST_ALONE: &str = "dump 1\ncommit 1.1 tag 0.1.1 read 0.0\n\
-write 0 d.c 15000000105f696400010000001061000000000000\n";
 
 /// What a call of `offline` did.
 #[derive(Drop)]
@@ -78,40 +50,6 @@ fn words_of(alloc: Global, text: &str) -> Result<Vec<String>, AllocError> {
         words.push(String::from_str(alloc, word)?)?;
     }
     Ok(words)
-}
-
-#[test]
-fn the_first_insert(rt: HostRuntime) -> Result<(), Fail> {
-    let alloc = rt.alloc();
-    let words = words_of(alloc, "play")?;
-    let ran = play(alloc, &words, INSERT, Vec::new(alloc), Vec::new(alloc))?;
-    assert_eq!(rt; ran.status, Status::Ok);
-    let wanted = format!(in alloc; "{REPLY}{DUMP}")?;
-    assert_eq!(rt; ran.text.as_slice(), wanted.as_bytes());
-    Ok(())
-}
-
-#[test]
-fn an_int64_is_the_id_of_an_int32(rt: HostRuntime) -> Result<(), Fail> {
-    let alloc = rt.alloc();
-    let words = words_of(alloc, "play")?;
-    let ran = play(alloc, &words, TWO_INSERTS, Vec::new(alloc), Vec::new(alloc))?;
-    assert_eq!(rt; ran.status, Status::Ok);
-    let wanted = format!(in alloc; "{TWO_REPLIES}{FIRST_ALONE}")?;
-    assert_eq!(rt; ran.text.as_slice(), wanted.as_bytes());
-    Ok(())
-}
-
-#[test]
-fn schedules_and_their_texts(rt: HostRuntime) -> Result<(), Fail> {
-    let alloc = rt.alloc();
-    let words = words_of(alloc, "play")?;
-    for (input, text) in ROWS {
-        let ran = play(alloc, &words, input, Vec::new(alloc), Vec::new(alloc))?;
-        assert_eq!(rt; ran.status, Status::Ok, "at {input}");
-        assert_eq!(rt; ran.text.as_slice(), text.as_bytes(), "at {input}");
-    }
-    Ok(())
 }
 
 #[test]
