@@ -3,7 +3,7 @@ ghost use Rattle.std.specs.Cmp.{
     partial_order_from_total, eq_by_cmp_equiv, partial_equiv_from_equiv,
 };
 ghost use Rattle.std.specs.Ordering.{eq_by_cmp, as_partial_cmp};
-ghost use Rattle.txn_types.proofs.Orders.{id_total};
+ghost use Rattle.txn_types.specs.Totals.{id_is_total};
 ghost use Rattle.txn_types.specs.Ids.{id_of, id_in};
 ghost use Rattle.txn_types.specs.Order.{id_cmp, kind_of, number_of, length_of, subtype_of, content_of};
 ghost use Rattle.txn_types.specs.declared.id.IdErr.TheVariants.{Memory};
@@ -161,7 +161,7 @@ impl Id {
 impl PartialEq for Id {
     ghost eq = { eq_by_cmp id_cmp };
 
-    ghost laws = { partial_equiv_from_equiv (eq_by_cmp_equiv id_total) };
+    ghost laws = { partial_equiv_from_equiv (eq_by_cmp_equiv id_is_total) };
 
     fn eq(&self, other: &Id) -> bool {
         self.compare(other).is_eq()
@@ -169,13 +169,13 @@ impl PartialEq for Id {
 }
 
 impl Eq for Id {
-    ghost laws = { eq_by_cmp_equiv id_total };
+    ghost laws = { eq_by_cmp_equiv id_is_total };
 }
 
 impl PartialOrd for Id {
     ghost partial_cmp = { as_partial_cmp id_cmp };
 
-    ghost laws = { partial_order_from_total id_total };
+    ghost laws = { partial_order_from_total id_is_total };
 
     fn partial_cmp(&self, other: &Id) -> Option<Ordering> {
         Some(self.compare(other))
@@ -186,7 +186,7 @@ impl PartialOrd for Id {
 impl Ord for Id {
     ghost cmp = { id_cmp };
 
-    ghost total = { id_total };
+    ghost total = { id_is_total };
 
     ghost matches_partial_cmp = { λ x y. refl };
 
