@@ -1,8 +1,9 @@
+//! Filters and updates in words, as crud_parse reads them.
+
 use crate::words::{document_of, document_text, text_of, value_of};
 use bson_core::{List, Value};
 use crud_parse::{CrudErr, read_filter, read_update};
 use std::alloc::{AllocError, Global};
-use std::test::Fail;
 use txn_types::{Cmp, Filter, Update, UpdateKind, UpdateOp};
 
 fn put_test(alloc: Global, out: &mut String, cmp: Cmp, value: &Value) -> Result<(), AllocError> {
@@ -103,7 +104,7 @@ fn put_error(out: &mut String, error: &CrudErr) -> Result<(), AllocError> {
 }
 
 /// What the document of these words is read as, as a filter.
-fn filter_text(alloc: Global, words: &str) -> Result<String, AllocError> {
+pub fn filter_text(alloc: Global, words: &str) -> Result<String, AllocError> {
     let mut out = String::new(alloc);
     match read_filter(alloc, &document_of(alloc, words)?) {
         Ok(filter) => put_filter(alloc, &mut out, &filter)?,
@@ -113,114 +114,11 @@ fn filter_text(alloc: Global, words: &str) -> Result<String, AllocError> {
 }
 
 /// What the value of these words is read as, as an update.
-fn update_text(alloc: Global, words: &str) -> Result<String, AllocError> {
+pub fn update_text(alloc: Global, words: &str) -> Result<String, AllocError> {
     let mut out = String::new(alloc);
     match read_update(alloc, &value_of(alloc, words)?) {
         Ok(update) => put_update(alloc, &mut out, &update)?,
         Err(error) => put_error(&mut out, &error)?,
     }
     Ok(out)
-}
-
-/// Documents, and the filters that they are or the first refusals.
-const FILTERS: &[(&str, &str)] = &[
-    ("{ }", "and()"),
-    ("{ a 5 b x }", "and(a eq 5, b eq \"x\")"),
-    ("{ a { } }", "and(a eq {})"),
-    ("{ a { b 1 } }", "and(a eq {\"b\": 1})"),
-    ("{ a { b.c 1 $x 2 } }", "and(a eq {\"b.c\": 1, \"$x\": 2})"),
-    ("{ a [ 1 { $gt 2 } ] }", "and(a eq [1, {\"$gt\": 2}])"),
-    ("{ a 1 a 2 }", "and(a eq 1, a eq 2)"),
-    (
-        "{ a { $eq 1 $ne 2 $gt 3 } }",
-        "and(and(a eq 1, a ne 2, a gt 3))",
-    ),
-    (
-        "{ a { $gte 4 $lt 5L $lte null } }",
-        "and(and(a gte 4, a lt 5L, a lte null))",
-    ),
-    (
-        "{ a { $in [ 1 x ] $nin [ ] } }",
-        "and(and(a in 1 \"x\", a nin))",
-    ),
-    (
-        "{ a { $exists true } b { $exists false } }",
-        "and(and(a exists true), and(b exists false))",
-    ),
-    ("{ a { $eq { $x 1 } } }", "and(and(a eq {\"$x\": 1}))"),
-    ("{ $and [ { a 1 } { } ] }", "and(and(and(a eq 1), and()))"),
-    (
-        "{ $or [ { a 1 } { $nor [ { b { $gt 2 } } ] c 3 } ] d 4 }",
-        "and(or(and(a eq 1), and(nor(and(and(b gt 2))), c eq 3)), d eq 4)",
-    ),
-    // refusals
-    ("{ $where 1 }", "unknown operator $where"),
-    ("{ a 1 $gt 2 }", "unknown operator $gt"),
-    ("{ $ 1 }", "unknown operator $"),
-    ("{ a { $regex x } }", "unknown operator $regex"),
-    ("{ a { $gt 1 b 2 } }", "unknown operator b"),
-    ("{ a { $and [ { } ] } }", "unknown operator $and"),
-    ("{ a.b 1 }", "dotted name a.b"),
-    ("{ . { $gt 1 } }", "dotted name ."),
-    ("{ $a.b 1 }", "unknown operator $a.b"),
-    ("{ $and 1 }", "wrong kind $and"),
-    ("{ $or [ ] }", "wrong kind $or"),
-    ("{ $nor [ { } 1 ] }", "wrong kind $nor"),
-    ("{ $or { a 1 } }", "wrong kind $or"),
-    ("{ a { $in 1 } }", "wrong kind $in"),
-    ("{ a { $nin { } } }", "wrong kind $nin"),
-    ("{ a { $exists 1 } }", "wrong kind $exists"),
-    // of two refusals the first
-    ("{ a.b 1 $where 1 }", "dotted name a.b"),
-    ("{ a { $in 1 $x 2 } b.c 1 }", "wrong kind $in"),
-    (
-        "{ $or [ { $x 1 } { a.b 1 } ] $and 1 }",
-        "unknown operator $x",
-    ),
-    ("{ $or [ { $x 1 } 5 ] }", "wrong kind $or"),
-];
-
-/// Values, and the updates that they are or the first refusals.
-const UPDATES: &[(&str, &str)] = &[
-    ("{ }", "replace {}"),
-    (
-        "{ a 1 $set { b 2 } c.d 3 }",
-        "replace {\"a\": 1, \"$set\": {\"b\": 2}, \"c.d\": 3}",
-    ),
-    ("{ $set { a 1 b x } }", "set a 1;set b \"x\";"),
-    ("{ $set { } }", ""),
-    ("{ $set { $a 1 } }", "set $a 1;"),
-    ("{ $unset { a 1 b null } }", "unset a null;unset b null;"),
-    ("{ $inc { a 1 b 2L } }", "inc a 1;inc b 2L;"),
-    (
-        "{ $inc { a 1 } $set { a x } $inc { b -2 } }",
-        "inc a 1;set a \"x\";inc b -2;",
-    ),
-    // refusals
-    ("5", "wrong kind u"),
-    ("[ ]", "wrong kind u"),
-    ("{ $rename { a b } }", "unknown operator $rename"),
-    ("{ $set { a 1 } b 2 }", "unknown operator b"),
-    ("{ $set 1 }", "wrong kind $set"),
-    ("{ $unset [ ] }", "wrong kind $unset"),
-    ("{ $set { a.b 1 } }", "dotted name a.b"),
-    ("{ $unset { a. 1 } }", "dotted name a."),
-    ("{ $inc { a x } }", "wrong kind a"),
-    // of two refusals the first
-    ("{ $set { a 1 b.c 2 } $rename 1 }", "dotted name b.c"),
-    ("{ $inc { a.b x } }", "dotted name a.b"),
-    ("{ $inc { a 1 b x } $set 1 }", "wrong kind b"),
-    ("{ $rename 1 $set 1 }", "unknown operator $rename"),
-];
-
-#[test]
-fn filters_and_updates_are_read(rt: HostRuntime) -> Result<(), Fail> {
-    let alloc = rt.alloc();
-    for (words, expected) in FILTERS {
-        assert_eq!(rt; filter_text(alloc, words)?.as_str(), *expected, "{words}");
-    }
-    for (words, expected) in UPDATES {
-        assert_eq!(rt; update_text(alloc, words)?.as_str(), *expected, "{words}");
-    }
-    Ok(())
 }

@@ -1,10 +1,10 @@
-use bson_core::{Doc, Name, Text, Value};
+use bson_core::{Bin, Bytes, Doc, Name, Text, Value};
 use bson_text::{print, print_value};
 use sqlite_items::Items;
 use std::alloc::{AllocError, Global};
 
 /// A document or a list whose end isn't read yet.
-#[derive(Debug, Drop)]
+#[derive(Drop)]
 struct Open {
     is_list: bool,
     name: Option<Name>,
@@ -49,7 +49,35 @@ impl Open {
     }
 }
 
-/// A value that holds no others: `null`, `true`, `false`, an int32, an int64 with an `L` behind it, or else a text.
+/// A moment as `d:1000`, an object id as `o:` and 24 digits, or a binary as `b4:00ff`.
+fn marked(alloc: Global, word: &str) -> Result<Option<Value>, AllocError> {
+    let Some((mark, rest)) = word.split_once(":") else {
+        return Ok(None);
+    };
+    if mark == "d"
+        && let Ok(moment) = rest.parse::<i64>()
+    {
+        return Ok(Some(Value::Date(moment)));
+    }
+    let Ok(bytes) = hex::decode(alloc, rest) else {
+        return Ok(None);
+    };
+    if mark == "o"
+        && let Ok(id) = <[u8; 12]>::try_from(bytes.as_slice())
+    {
+        return Ok(Some(Value::Oid(id)));
+    }
+    if let Some(digits) = mark.strip_prefix("b")
+        && let Ok(subtype) = digits.parse::<u8>()
+    {
+        let bytes = Bytes::new(bytes);
+        return Ok(Some(Value::Bin(Bin { subtype, bytes })));
+    }
+    Ok(None)
+}
+
+/// A value that holds no others: `null`, `true`, `false`, an int32, an int64 with an `L` after it, one with a mark, or else
+/// a text.
 fn leaf(alloc: Global, word: &str) -> Result<Value, AllocError> {
     if word == "null" {
         return Ok(Value::Null);
@@ -64,6 +92,9 @@ fn leaf(alloc: Global, word: &str) -> Result<Value, AllocError> {
         && let Ok(number) = digits.parse::<i64>()
     {
         return Ok(Value::Long(number));
+    }
+    if let Some(value) = marked(alloc, word)? {
+        return Ok(value);
     }
     Ok(Value::Text(Text::new(String::from_str(alloc, word)?)))
 }
