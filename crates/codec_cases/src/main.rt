@@ -1,0 +1,39 @@
+//! Runs the cases of documents, their order, messages and streams that lie in a folder, the current one where none is named,
+//! and prints each that goes another way than it says, and how many there were in each file.
+#![tactic(auto)]
+
+mod cases;
+mod documents;
+mod faults;
+mod messages;
+mod order;
+mod streams;
+
+use cases::Cases;
+use std::{env, fs, io};
+
+/// The files of cases.
+const FILES: [&str; 4] = [
+    "documents.cases",
+    "order.cases",
+    "messages.cases",
+    "streams.cases",
+];
+
+fn main(rt: HostRuntime) -> io::Result<()> {
+    let alloc = rt.alloc();
+    let mut words = env::args(&rt)?.skip(1);
+    let folder = match words.next() {
+        Some(folder) => folder,
+        None => String::from_str(alloc, ".")?,
+    };
+    for name in FILES {
+        let path = format!(in alloc; "{folder}/{name}")?;
+        let text = fs::read_to_string(&rt, path.as_str())?;
+        let mut cases = Cases::new(alloc);
+        let report = cases.run(alloc, text.as_str())?;
+        print!(rt; "{report}")?;
+        println!(rt; "{name}: {} cases", cases.count)?;
+    }
+    Ok(())
+}
