@@ -1,8 +1,8 @@
 -- A stream that is cut into messages: what stands next stays the same when more bytes come, so what is given doesn't depend
 -- on how they came.
-use Rattle.std.proofs.Common.{◌≡◌, ℕ, suc, ℤ, ◌+◌, ◌^◌, ◌<◌, ◌≤◌, Bool, true, false, cond, ltb, leb, List, [], ◌∷◌, ◌++◌, length, take, drop, Option, Some, None, Result, Ok, Err, refl, sym, ap, subst, ◌∙◌, append_assoc, length-append, inl, inr, arith}
+use Rattle.std.proofs.Common.{◌≡◌, ℕ, suc, ◌^◌, ◌<◌, ◌≤◌, Bool, true, false, cond, ltb, leb, List, [], ◌∷◌, ◌++◌, length, take, drop, Option, Some, None, Result, Ok, Err, refl, sym, ap, subst, ◌∙◌, append_assoc, length-append, inl, inr, arith}
 use Rattle.std.specs.Prelude.{◌||◌}
-use Rattle.std.specs.Int.{w32, from_le_bytes, cast_unsigned}
+use Rattle.std.specs.Int.{w32, from_le_bytes}
 use Rattle.std.specs.List.{All, concat}
 use Rattle.std.proofs.lemmas.Bool.{cases_lt, ltb-false, le-ltb, lt-ltb, lt-leb}
 use Rattle.std.proofs.lemmas.List.{append-nil, take-append-drop, take-append-le, drop-append-le}
@@ -13,7 +13,8 @@ use Rattle.op_msg.specs.declared.frame.Frame.{Frame}
 use Rattle.op_msg.specs.declared.frame.FrameErr.{FrameErr}
 use Rattle.op_msg.specs.declared.frame.FrameErr.TheVariants.{Length, TooLarge}
 use Rattle.op_msg.specs.Words.{word}
-use Rattle.op_msg.specs.Message.{front, IsMessage}
+use Rattle.op_msg.specs.Message.{IsMessage}
+use Rattle.op_msg.proofs.Fronts.{begins_with_length}
 use Rattle.op_msg.specs.Stream.{length_by, length_of, Next, next_by, next_of, GivesMessage, Step, Feed, Take, Cut, taken_by, behind, run, fed, IsMessageWithin}
 
 -- The length in front.
@@ -154,32 +155,20 @@ one_way limit stream (x ∷ a) h (y ∷ b) k p q m n =
 
 -- Messages of the protocol.
 
-length_front : (len : ℕ) (request_id response_to : ℤ) (flags : ℕ) → length (front len request_id response_to flags) ≡ 20
-unfolding front word
-length_front len request_id response_to flags = refl
-
 number_of_word : (n : ℕ) (rest : List ℕ) → n < 2 ^ 32 → number_at w32 (word n ++ rest) ≡ Some (n, rest)
 unfolding word
 number_of_word n rest fits = number32_again n rest fits
-
-number_in_front : (len : ℕ) (request_id response_to : ℤ) (flags : ℕ) (rest : List ℕ) → len < 2 ^ 32 → (x : List ℕ) × (number_at w32 (front len request_id response_to flags ++ rest) ≡ Some (len, x))
-unfolding front
-number_in_front len request_id response_to flags rest fits =
-    let x = word (cast_unsigned w32 request_id) ++ (word (cast_unsigned w32 response_to) ++ (word 2013 ++ (word flags ++ rest))) in
-    (x, simp append_assoc (number_of_word len x fits))
 
 -- the tests of a message's length
 pub message_length : (limit : ℕ) (bytes more : List ℕ) (f : Frame) (short : Bool) → IsMessage bytes f → ltb limit (length bytes) ≡ short → length_of limit (bytes ++ more) ≡ cond short (Err TooLarge) (Ok (Some (length bytes)))
 unfolding length_of
 message_length limit bytes more f short m test =
     let len = length bytes in
-    let rest = m.inside ++ m.checksum in
-    let spelled : bytes ≡ front len f.request_id f.response_to m.flags ++ rest = m.spelled ∙ append_assoc (front len f.request_id f.response_to m.flags) m.inside m.checksum in
-    let size : len ≡ 20 + length rest = ap length spelled ∙ length-append (front len f.request_id f.response_to m.flags) rest ∙ ap (λ (n : ℕ). n + length rest) (length_front len f.request_id f.response_to m.flags) in
-    let x = number_in_front len f.request_id f.response_to m.flags rest (omega (arith, m.limits.most)) in
-    let number : number_at w32 (bytes ++ more) ≡ Some (len, x.0 ++ more) = number-append bytes more (len, x.0) (ap (number_at w32) spelled ∙ x.1) in
-    let low : ltb len 16 ≡ false = le-ltb _ _ (omega (arith, size)) in
-    let high : leb (2 ^ 31) len ≡ false = lt-leb _ _ (omega (arith, m.limits.most)) in
+    let begins = begins_with_length f bytes m in
+    let first : number_at w32 bytes ≡ Some (len, begins.behind) = ap (number_at w32) begins.is ∙ number_of_word len begins.behind (omega (arith, begins.most)) in
+    let number : number_at w32 (bytes ++ more) ≡ Some (len, begins.behind ++ more) = number-append bytes more (len, begins.behind) first in
+    let low : ltb len 16 ≡ false = le-ltb _ _ begins.header in
+    let high : leb (2 ^ 31) len ≡ false = lt-leb _ _ (omega (arith, begins.most)) in
     let held : ltb (length (bytes ++ more)) len ≡ false = le-ltb _ _ (omega (arith, length-append bytes more)) in
     rw (number, low, high, test, held) refl
 

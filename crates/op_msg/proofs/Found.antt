@@ -14,9 +14,9 @@ use Rattle.bson_core.proofs.Whole.{whole_found}
 use Rattle.op_msg.specs.declared.frame.FrameErr.{FrameErr}
 use Rattle.op_msg.specs.declared.frame.FrameErr.TheVariants.{Section}
 use Rattle.op_msg.specs.Words.{word}
-use Rattle.op_msg.specs.Message.{Sequence, sequence_section, ReadsDocuments, ReadsSection, ReadsSections, bodies, sequences_of, has_flag, AreFlags}
+use Rattle.op_msg.specs.Message.{Sequence, sequence_section, ReadsDocuments, ReadsSection, ReadsSections, bodies, sequences_of, has_flag, AreFlags, MayRead, Query, query_front, IsQuery}
 use Rattle.op_msg.specs.Message as grammar
-use Rattle.op_msg.specs.Reading.{◌>>=◌, number, extent, document_at, documents_at, name_at, sequence_at, Found, with_body, section_at, finish, sections_at, least_flag, known_by, without_sum, contents_at}
+use Rattle.op_msg.specs.Reading.{◌>>=◌, number, extent, document_at, documents_at, name_at, sequence_at, Found, with_body, section_at, finish, sections_at, least_flag, known_by, without_sum, contents_at, at_end, second_at, query_at}
 use Rattle.op_msg.proofs.Steps.{bind_ok, passed, ok_is, no_fault, was_read, was_name}
 
 number_found : (bytes : List ℕ) (x : ℕ × List ℕ) → IsInput bytes → number bytes ≡ Ok x → Is32 bytes x
@@ -222,4 +222,62 @@ contents_found bytes c h e =
       reads = found.1;
       body = found.2.body;
       seqs = found.2.seqs;
+    })
+
+-- An older message.
+
+ended : (bytes : List ℕ) (u : Unit {0}) → at_end bytes ≡ Ok u → bytes ≡ []
+ended [] u e = refl
+ended (b ∷ bytes) u e = absurd cc
+
+second_found : (bytes : List ℕ) (u : Unit {0}) → IsInput bytes → second_at bytes ≡ Ok u → (selector : Option Document) × MayRead selector bytes
+second_found [] u h e = (None, refl)
+second_found (b ∷ bytes) u h e =
+    let d = bind_ok (document_at (b ∷ bytes)) (λ x. at_end x.1) u e in
+    let f = document_found (b ∷ bytes) d.0 h d.1 in
+    let whole : b ∷ bytes ≡ f.0 = f.2 ∙ ap (λ (l : List ℕ). f.0 ++ l) (ended d.0.1 u d.2) ∙ append-nil f.0 in
+    (Some d.0.0, subst (λ (l : List ℕ). Reads 100 d.0.0 l) (sym whole) f.1)
+
+-- what stands behind the header of an OP_QUERY
+pub record AreQuery (bytes : List ℕ) (body : Document) : Type 0 where
+  pub query : Query
+  pub selector : Option Document
+  pub first : List ℕ
+  pub second : List ℕ
+  pub spelled : bytes ≡ query_front query ++ (first ++ second)
+  pub is_query : IsQuery query
+  pub reads : Reads 100 body first
+  pub fields : MayRead selector second
+
+query_spelled : (q : Query) (bytes after name skip documents : List ℕ) → bytes ≡ word q.flags ++ after → after ≡ q.collection ++ 0 ∷ name → name ≡ word q.skip ++ skip → skip ≡ word q.count ++ documents → bytes ≡ query_front q ++ documents
+unfolding query_front
+query_spelled q bytes after name skip documents a b c d =
+    a ∙ ap (λ (l : List ℕ). word q.flags ++ l) (b ∙ ap (λ (l : List ℕ). q.collection ++ 0 ∷ l) (c ∙ ap (λ (l : List ℕ). word q.skip ++ l) d)) ∙ simp append_assoc
+
+pub query_found : (bytes : List ℕ) (body : Document) → IsInput bytes → query_at bytes ≡ Ok body → AreQuery bytes body
+unfolding query_at name_at word
+query_found bytes body h e =
+    let a = bind_ok (number bytes) _ body e in
+    let na = number_found bytes a.0 h a.1 in
+    let b = bind_ok (name_at a.0.1) _ body a.2 in
+    let nb = name_found 0 a.0.1 b.0 na.1 (was_name (document.name_at 0 a.0.1) b.0 b.1) in
+    let c = bind_ok (number b.0.1) _ body b.2 in
+    let nc = number_found b.0.1 c.0 nb.2 c.1 in
+    let d = bind_ok (number c.0.1) _ body c.2 in
+    let nd = number_found c.0.1 d.0 nc.1 d.1 in
+    let one = bind_ok (document_at d.0.1) _ body d.2 in
+    let first = document_found d.0.1 one.0 nd.1 one.1 in
+    let two = bind_ok (second_at one.0.1) _ body one.2 in
+    let second = second_found one.0.1 two.0 first.3 two.1 in
+    let query : Query = record { flags = a.0.0; collection = b.0.0; skip = c.0.0; count = d.0.0 } in
+    subst (AreQuery bytes) (ok_is one.0.0 body two.2)
+    (record {
+      query = query;
+      selector = second.0;
+      first = first.0;
+      second = one.0.1;
+      spelled = query_spelled query bytes a.0.1 b.0.1 c.0.1 d.0.1 na.0 nb.0 nc.0 nd.0 ∙ ap (λ (l : List ℕ). query_front query ++ l) first.2;
+      is_query = record { flags = na.2; collection = nb.1; skip = nc.2; count = nd.2 };
+      reads = first.1;
+      fields = second.1;
     })

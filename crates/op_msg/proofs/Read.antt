@@ -12,9 +12,9 @@ use Rattle.bson_core.proofs.Lengths.{length_framed}
 use Rattle.bson_core.proofs.Again.{number32_again, name_again}
 use Rattle.bson_core.proofs.Whole.{whole_again}
 use Rattle.op_msg.specs.Words.{word}
-use Rattle.op_msg.specs.Message.{Sequence, sequence_section, ReadsDocuments, ReadsSection, ReadsSections, bodies, sequences_of, has_flag, AreFlags}
+use Rattle.op_msg.specs.Message.{Sequence, sequence_section, ReadsDocuments, ReadsSection, ReadsSections, bodies, sequences_of, has_flag, AreFlags, MayRead, Query, query_front, IsQuery}
 use Rattle.op_msg.specs.Message as grammar
-use Rattle.op_msg.specs.Reading.{◌>>=◌, number, extent, document_at, documents_at, name_at, sequence_at, Found, section_at, finish, sections_at, least_flag, without_sum, contents_at}
+use Rattle.op_msg.specs.Reading.{◌>>=◌, number, extent, document_at, documents_at, name_at, sequence_at, Found, section_at, finish, sections_at, least_flag, without_sum, contents_at, at_end, second_at, query_at}
 use Rattle.op_msg.proofs.Steps.{bound}
 
 -- No document in a message is longer.
@@ -210,3 +210,34 @@ contents_again flags more parts inside checksum body seqs f reads is_body are_se
     let found : sections_at (length inside + 1) (None, []) inside ≡ Ok (body, seqs) =
     sections_again parts inside (length inside + 1) (None, []) body seqs reads (record { body = is_body; seqs = are_seqs }) (omega (arith, sections_long parts inside reads)) small in
     rw (num, clear, sum, found) (ap (λ (b : Bool). Ok (b, body, seqs)) f.more_to_come)
+
+-- An older message.
+
+second_turn : (bytes : List ℕ) → 0 < length bytes → second_at bytes ≡ (document_at bytes >>= λ x. at_end x.1)
+second_turn [] some = absurd (omega arith)
+second_turn (b ∷ bytes) some = refl
+
+second_again : (selector : Option Document) (bytes : List ℕ) → MayRead selector bytes → length bytes ≤ most → second_at bytes ≡ Ok tt
+second_again None bytes h small = ap second_at h
+second_again (Some doc) bytes h small =
+    let some : 0 < length bytes = omega (arith, document_long doc bytes h) in
+    let read : document_at bytes ≡ Ok (doc, []) = ap document_at (sym (append-nil bytes)) ∙ document_again doc bytes [] h small in
+    second_turn bytes some ∙ rw read refl
+
+-- what stands behind the header of an OP_QUERY
+pub query_again : (q : Query) (body : Document) (selector : Option Document) (first second : List ℕ) → IsQuery q → Reads 100 body first → MayRead selector second → length first ≤ most → length second ≤ most
+    → query_at (query_front q ++ (first ++ second)) ≡ Ok body
+unfolding query_at query_front
+query_again q body selector first second is reads fields small also_small =
+    let documents = first ++ second in
+    let behind_skip = word q.count ++ documents in
+    let behind_name = word q.skip ++ behind_skip in
+    let behind_flags = q.collection ++ 0 ∷ behind_name in
+    let whole : query_front q ++ documents ≡ word q.flags ++ behind_flags = simp append_assoc in
+    let flags : number (word q.flags ++ behind_flags) ≡ Ok (q.flags, behind_flags) = number_again q.flags behind_flags is.flags in
+    let collection : name_at behind_flags ≡ Ok (q.collection, behind_name) = name_read q.collection behind_name is.collection in
+    let skip : number behind_name ≡ Ok (q.skip, behind_skip) = number_again q.skip behind_skip is.skip in
+    let count : number behind_skip ≡ Ok (q.count, documents) = number_again q.count documents is.count in
+    let one : document_at documents ≡ Ok (body, second) = document_again body first second reads small in
+    let two : second_at second ≡ Ok tt = second_again selector second fields also_small in
+    rw (whole, flags, collection, skip, count, one, two) refl

@@ -1,5 +1,5 @@
 -- What is written of a message is that message.
-use Rattle.std.proofs.Common.{◌≡◌, ℕ, ◌^◌, ◌<◌, ◌≤◌, Bool, true, false, inl, inr, List, [], ◌∷◌, ◌++◌, length, refl, sym, ap, ◌∙◌, arith, FitsSigned}
+use Rattle.std.proofs.Common.{◌≡◌, ℕ, ◌^◌, ◌<◌, ◌≤◌, Bool, true, false, inl, inr, List, [], ◌∷◌, ◌++◌, length, refl, sym, ap, subst, ◌∙◌, arith, FitsSigned}
 use Rattle.std.specs.Int.{w32}
 use Rattle.std.specs.List.{All, flat_map}
 use Rattle.std.proofs.Math.Nat.{div-eq_of_lt}
@@ -9,7 +9,7 @@ use Rattle.std.proofs.lemmas.List.Elements.{All-head, All-tail}
 use Rattle.bson_core.specs.Fields.{Document}
 use Rattle.bson_core.specs.Spelling.{spelling}
 use Rattle.bson_core.specs.Written.{most}
-use Rattle.op_msg.specs.Message.{Sequence, Section, front, sequence_section, sequences, sections, flags_of, message, has_flag, ReadsDocuments, ReadsSections, bodies, sequences_of, IsWithinLimits, AreFlags, IsMessage}
+use Rattle.op_msg.specs.Message.{Sequence, Section, front, sequence_section, sequences, sections, flags_of, message_by, message, has_flag, ReadsDocuments, ReadsSections, bodies, sequences_of, IsWithinLimits, AreFlags, IsCurrent, IsMessage}
 use Rattle.op_msg.specs.Written.{IsShallow, HasShallowDocuments, IsWritten, IsSequenceWritten}
 use Rattle.op_msg.specs.declared.frame.Frame.{Frame}
 use Rattle.op_msg.proofs.Fronts.{length_sequence_section, length_sections, length_message}
@@ -72,16 +72,16 @@ same_sequences (seq ∷ seqs) = ap (λ (more : List Sequence). seq ∷ more) (sa
 
 -- The whole.
 
-pub is_message : (f : Frame) → FitsSigned w32 f.request_id → FitsSigned w32 f.response_to → IsWritten f.body → All IsSequenceWritten f.seqs
-    → f.legacy ≡ false → HasShallowDocuments f → IsWithinLimits (length (message f)) f.body → IsMessage (message f) f
-is_message f request response body_written seqs_written modern shallow limits =
+is_current : (f : Frame) → FitsSigned w32 f.request_id → FitsSigned w32 f.response_to → IsWritten f.body → All IsSequenceWritten f.seqs
+    → f.legacy ≡ false → HasShallowDocuments f → IsWithinLimits (length (message_by false f)) f.body → IsCurrent (message_by false f) f
+is_current f request response body_written seqs_written modern shallow limits =
     let whole = length_message f in
     let inside = length_sections f in record {
       flags = flags_of f.more;
       parts = inl f.body ∷ sections_of f.seqs;
       inside = sections f;
       checksum = [];
-      spelled = sym (append-nil (message f)) ∙ ap (λ (len : ℕ). front len f.request_id f.response_to (flags_of f.more) ++ sections f ++ []) (sym whole);
+      spelled = sym (append-nil (message_by false f)) ∙ ap (λ (len : ℕ). front len f.request_id f.response_to (flags_of f.more) ++ sections f ++ []) (sym whole);
       request_id = request;
       response_to = response;
       are_flags = are_flags f.more;
@@ -91,3 +91,9 @@ is_message f request response body_written seqs_written modern shallow limits =
       limits = limits;
       modern = modern;
     }
+
+pub is_message : (f : Frame) → FitsSigned w32 f.request_id → FitsSigned w32 f.response_to → IsWritten f.body → All IsSequenceWritten f.seqs
+    → f.legacy ≡ false → HasShallowDocuments f → IsWithinLimits (length (message f)) f.body → IsMessage (message f) f
+is_message f request response body_written seqs_written modern shallow limits =
+    subst (λ (bytes : List ℕ). IsMessage bytes f) (ap (λ (b : Bool). message_by b f) (sym modern))
+    (inl (is_current f request response body_written seqs_written modern shallow (subst (λ (b : Bool). IsWithinLimits (length (message_by b f)) f.body) modern limits)))

@@ -3,4 +3,5 @@ pub mod Message
 pub mod Written
 pub mod Errors
 pub mod Reading
+pub mod Asking
 pub mod Stream

@@ -1,8 +1,13 @@
--- Messages, after the OP_MSG page of the MongoDB wire protocol: a header of four int32 (the length of the whole
--- message, requestID, responseTo, opCode), flagBits, sections, and where the lowest flag is set a checksum of four
--- bytes. A section of kind 0 is one document, the body. One of kind 1 is a sequence: a size that counts itself, a name
--- ended by 00, and documents.
-use Rattle.std.specs.Prelude.{◌≡◌, ℕ, ℤ, ◌+◌, ◌^◌, ◌<◌, ◌≤◌, ◌/◌, ◌%◌, ◌⊎◌, ◌==◌, Bool, false, List, [], ◌∷◌, ◌++◌, length, Some, None, IsTrue, FitsSigned, codes, if◌then◌else◌}
+-- Messages, after the pages of the MongoDB wire protocol on OP_MSG, OP_QUERY and OP_REPLY. Each begins with a header of
+-- four int32: the length of the whole message, requestID, responseTo and opCode.
+--
+-- OP_MSG, 2013, has flagBits, sections, and where the lowest flag is set a checksum of four bytes. A section of kind 0 is
+-- one document, the body. One of kind 1 is a sequence: a size that counts itself, a name ended by 00, and documents.
+--
+-- Older clients begin by an OP_QUERY, 2004, which has flags, a collection's name ended by 00, numberToSkip,
+-- numberToReturn, a document, and maybe a second one that says which fields are wanted. It is answered by an OP_REPLY, 1:
+-- responseFlags, an int64 cursorID, startingFrom, numberReturned, and as many documents.
+use Rattle.std.specs.Prelude.{◌≡◌, ℕ, ℤ, ◌+◌, ◌^◌, ◌<◌, ◌≤◌, ◌/◌, ◌%◌, ◌⊎◌, ◌==◌, Bool, true, false, List, [], ◌∷◌, ◌++◌, length, Option, Some, None, IsTrue, FitsSigned, codes, if◌then◌else◌}
 use Rattle.std.proofs.Common.{inl, inr}
 use Rattle.std.specs.List.{flat_map}
 use Rattle.std.specs.Int.{w32, cast_unsigned}
@@ -42,9 +47,17 @@ sections f = 0 ∷ spelling f.body ++ sequences f.seqs
 abbrev pub flags_of : Bool → ℕ
 flags_of more = if more then 2 else 0
 
--- the one spelling of a message
+-- the header of an OP_REPLY, with opCode 1, no flags, the cursor 0, from 0 on one document
+unfoldable pub reply_front : ℕ → ℤ → ℤ → List ℕ
+reply_front len request_id response_to = word len ++ word (cast_unsigned w32 request_id) ++ word (cast_unsigned w32 response_to) ++ word 1 ++ word 0 ++ (word 0 ++ word 0) ++ word 0 ++ word 1
+
+-- the one spelling of a message; one in the older form is an OP_REPLY of its body alone
+abbrev pub message_by : Bool → Frame → List ℕ
+message_by false f = front (20 + length (sections f)) f.request_id f.response_to (flags_of f.more) ++ sections f
+message_by true f = reply_front (36 + length (spelling f.body)) f.request_id f.response_to ++ spelling f.body
+
 abbrev pub message : Frame → List ℕ
-message f = front (20 + length (sections f)) f.request_id f.response_to (flags_of f.more) ++ sections f
+message f = message_by f.legacy f
 
 -- What is read.
 
@@ -101,8 +114,8 @@ pub record AreFlags (flags : ℕ) (more : Bool) (checksum : List ℕ) : Type 0 w
   pub more_to_come : has_flag 1 flags ≡ more
   pub sum : length checksum ≡ (if has_flag 0 flags then 4 else 0)
 
--- the bytes, all of them, are this message
-pub record IsMessage (bytes : List ℕ) (f : Frame) : Type 0 where
+-- the bytes, all of them, are this OP_MSG
+pub record IsCurrent (bytes : List ℕ) (f : Frame) : Type 0 where
   pub flags : ℕ
   pub parts : List Section
   pub inside : List ℕ
@@ -116,3 +129,49 @@ pub record IsMessage (bytes : List ℕ) (f : Frame) : Type 0 where
   pub seqs : sequences_of parts ≡ f.seqs
   pub limits : IsWithinLimits (length bytes) f.body
   pub modern : f.legacy ≡ false
+
+-- nothing stands there, or that document
+abbrev pub MayRead : Option Document → List ℕ → Type 0
+MayRead None bytes = bytes ≡ []
+MayRead (Some doc) bytes = Reads 100 doc bytes
+
+-- what stands in an OP_QUERY behind its header and in front of its documents
+pub record Query : Type 0 where
+  pub flags : ℕ
+  pub collection : List ℕ
+  pub skip : ℕ
+  pub count : ℕ
+
+unfoldable pub query_front : Query → List ℕ
+query_front q = word q.flags ++ (q.collection ++ 0 ∷ []) ++ word q.skip ++ word q.count
+
+pub record IsQuery (q : Query) : Type 0 where
+  pub flags : q.flags < 2 ^ 32
+  pub collection : IsName q.collection
+  pub skip : q.skip < 2 ^ 32
+  pub count : q.count < 2 ^ 32
+
+-- the header of an OP_QUERY, with opCode 2004
+unfoldable pub query_header : ℕ → ℤ → ℤ → List ℕ
+query_header len request_id response_to = word len ++ word (cast_unsigned w32 request_id) ++ word (cast_unsigned w32 response_to) ++ word 2004
+
+-- the bytes, all of them, are this OP_QUERY; its second document is read and dropped
+pub record IsOlder (bytes : List ℕ) (f : Frame) : Type 0 where
+  pub query : Query
+  pub selector : Option Document
+  pub first : List ℕ
+  pub second : List ℕ
+  pub spelled : bytes ≡ query_header (length bytes) f.request_id f.response_to ++ query_front query ++ first ++ second
+  pub request_id : FitsSigned w32 f.request_id
+  pub response_to : FitsSigned w32 f.response_to
+  pub is_query : IsQuery query
+  pub body : Reads 100 f.body first
+  pub fields : MayRead selector second
+  pub limits : IsWithinLimits (length bytes) f.body
+  pub older : f.legacy ≡ true
+  pub no_more : f.more ≡ false
+  pub no_sequences : f.seqs ≡ []
+
+-- the bytes, all of them, are this message
+abbrev pub IsMessage : List ℕ → Frame → Type 0
+IsMessage bytes f = IsCurrent bytes f ⊎ IsOlder bytes f

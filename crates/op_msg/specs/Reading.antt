@@ -113,6 +113,35 @@ contents_at bytes = do
   found ← sections_at (length inside + 1) (None, []) inside
   Ok (has_flag 1 known, found.0, found.1)
 
+-- what stands behind the first document of an OP_QUERY: nothing, or a second one, and nothing behind it
+abbrev pub at_end : List ℕ → Result (Unit {0}) FrameErr
+at_end [] = Ok tt
+at_end (b ∷ bytes) = Err Section
+
+abbrev pub second_at : List ℕ → Result (Unit {0}) FrameErr
+second_at [] = Ok tt
+second_at (b ∷ bytes) = document_at (b ∷ bytes) >>= λ x. at_end x.1
+
+-- the first document of an OP_QUERY, behind its header
+unfoldable pub query_at : List ℕ → Result Document FrameErr
+query_at bytes = do
+  flags ← number bytes
+  collection ← name_at flags.1
+  skip ← number collection.1
+  count ← number skip.1
+  body ← document_at count.1
+  second ← second_at body.1
+  Ok body.0
+
+-- what stands behind a header: an OP_QUERY is never followed by more, and has no sequences
+abbrev pub contents_in : Bool → List ℕ → Result (Bool × Document × List Sequence) FrameErr
+contents_in false bytes = contents_at bytes
+contents_in true bytes = query_at bytes >>= λ body. Ok (false, body, [])
+
+-- whether an operation that is read is the older one
+abbrev pub is_older : ℕ → Result Bool FrameErr
+is_older op_code = if op_code == 2013 then Ok false else (if op_code == 2004 then Ok true else Err OpCode)
+
 -- a number of the header
 abbrev pub header_number : List ℕ → Result (ℕ × List ℕ) FrameErr
 header_number bytes = or_fault Length (number_at w32 bytes)
@@ -126,16 +155,16 @@ header_at bytes = do
   Ok (record { len = len.0; request_id = request.0; response_to = response.0; op_code = op.0 }, op.1)
 
 -- what a message of that length holds, within the limits for it
-abbrev pub contents_within : ℕ → List ℕ → Result (Bool × Document × List Sequence) FrameErr
-contents_within len bytes = do
-  contents ← contents_at bytes
+abbrev pub contents_within : Bool → ℕ → List ℕ → Result (Bool × Document × List Sequence) FrameErr
+contents_within legacy len bytes = do
+  contents ← contents_in legacy bytes
   if nat_lt 48000000 len && not (is_internal contents.1) then Err TooLarge else Ok contents
 
-abbrev pub frame_by : Header → Bool × Document × List Sequence → Frame
-frame_by header contents = record {
+abbrev pub frame_by : Header → Bool → Bool × Document × List Sequence → Frame
+frame_by header legacy contents = record {
   request_id = cast_signed w32 header.request_id;
   response_to = cast_signed w32 header.response_to;
-  legacy = false;
+  legacy = legacy;
   more = contents.0;
   body = contents.1;
   seqs = contents.2;
@@ -151,5 +180,4 @@ frame_of bytes = do
   header ← header_at bytes
   if not (is_length header.0.len (length bytes)) then Err Length else
       (if nat_lt 400000000 (length bytes) then Err TooLarge else
-      (if not (header.0.op_code == 2013) then Err OpCode else
-      (contents_within (length bytes) header.1 >>= λ contents. Ok (frame_by header.0 contents))))
+      (is_older header.0.op_code >>= λ legacy. contents_within legacy (length bytes) header.1 >>= λ contents. Ok (frame_by header.0 legacy contents)))

@@ -9,7 +9,7 @@ use std::alloc::{AllocError, AllocFailed};
 /// Document sequences: names, each with its documents (sections of kind 1).
 pub type Seqs = Items<(Name, Items<Doc>)>;
 
-/// A message, as the OP_MSG page of the MongoDB wire protocol has it.
+/// A message, as the pages of the MongoDB wire protocol on OP_MSG, OP_QUERY and OP_REPLY have it.
 #[derive(Debug, Drop)]
 pub struct Frame {
     pub request_id: i32,
@@ -19,7 +19,7 @@ pub struct Frame {
     pub legacy: bool,
     /// The flag moreToCome: the sender wants no reply.
     pub more: bool,
-    /// The section of kind 0.
+    /// The section of kind 0, or the document of an older form.
     pub body: Doc,
     pub seqs: Seqs,
 }
@@ -34,8 +34,8 @@ pub enum FrameErr {
     /// That flag is set, the least of the flags 2 to 15 that is: they say what a reader must know, and none of them
     /// is known.
     Flags { bit: u8 },
-    /// The flags, the checksum or a section's size don't fit into the message; or a section is of another kind than 0
-    /// and 1, or its name has no end or is no UTF-8.
+    /// The flags, the checksum, a section's size or a number of an OP_QUERY don't fit into the message; or a section is of
+    /// another kind than 0 and 1, or a name has no end or is no UTF-8; or bytes stand behind an OP_QUERY's last document.
     Section,
     /// There is no section of kind 0.
     NoBody,

@@ -1,6 +1,8 @@
-//! Messages of the MongoDB wire protocol: OP_MSG, opcode 2013, with sections and flags; and streams of them.
+//! Messages of the MongoDB wire protocol: OP_MSG, with sections and flags, and the older OP_QUERY and OP_REPLY, in which
+//! clients say their first word; and streams of them.
 #![tactic(auto)]
 
+mod asking;
 mod feeder;
 mod frame;
 mod header;
@@ -9,6 +11,7 @@ mod reading;
 mod words;
 mod writing;
 
+pub use asking::{is_legacy, request_id, wants_reply};
 pub use feeder::{Feeder, cuts_dont_matter, messages_come_out, no_byte_is_lost};
 pub use frame::{Frame, FrameErr, Seqs};
 pub use laws::{

@@ -1,7 +1,7 @@
 ghost use Rattle.std.specs.Prelude.{◌≡◌, ◌+◌, ◌-◌, ◌<◌, ◌≤◌, Ok, Some, None, [], length, IfOk};
 ghost use Rattle.op_msg.specs.Message.{has_flag, is_internal, IsMessage};
 ghost use Rattle.op_msg.specs.Errors.{Gives, from_name};
-ghost use Rattle.op_msg.specs.Reading.{number, extent, document_at, documents_at, name_at, sequence_at, section_at, finish, sections_at, least_flag, without_sum, contents_at, contents_within, frame_by, frame_of};
+ghost use Rattle.op_msg.specs.Reading.{number, extent, document_at, documents_at, name_at, sequence_at, section_at, finish, sections_at, least_flag, without_sum, contents_at, second_at, query_at, contents_in, contents_within, is_older, frame_by, frame_of};
 ghost use Rattle.op_msg.specs.declared.frame.Frame.{Frame as AnyFrame};
 
 use crate::frame::{Frame, FrameErr};
@@ -20,6 +20,8 @@ const CLIENT_MOST: usize = 48_000_000;
 const LENGTH_MOST: u32 = 0x7fff_ffff;
 
 const OP_MSG: u32 = 2013;
+
+const OP_QUERY: u32 = 2004;
 
 /// A number that is a part of a section.
 fn read_number(bytes: &[u8]) -> Result<(u32, &[u8]), FrameErr>
@@ -246,15 +248,75 @@ fn is_internal(body: &Doc) -> bool
     }
 }
 
-/// The contents of an OP_MSG of that many bytes.
-fn read_within_limits(alloc: Global, len: usize, bytes: &[u8]) -> Result<Contents, FrameErr>
-    ensures { Gives (λ c. (c.more, c.body, c.seqs.items)) result (contents_within len bytes.now) }
+/// What stands behind the first document of an OP_QUERY: nothing, or a second one, which is dropped.
+fn read_second(alloc: Global, bytes: &[u8]) -> Result<(), FrameErr>
+    ensures { Gives (λ x. x) result (second_at bytes.now) }
 {
-    let contents = read_contents(alloc, bytes)?;
+    if bytes.is_empty() {
+        return Ok(());
+    }
+    let (_, rest) = read_document(alloc, bytes)?;
+    if !rest.is_empty() {
+        return Err(FrameErr::Section);
+    }
+    Ok(())
+}
+
+/// The first document of an OP_QUERY: behind flags, a collection's name, and how many documents are to be passed over and
+/// given, none of which counts.
+#[tactic(auto, unfolding(crate::specs::Reading::query_at))]
+fn read_query(alloc: Global, bytes: &[u8]) -> Result<Doc, FrameErr>
+    ensures { Gives (λ d. d) result (query_at bytes.now) }
+{
+    let (_, rest) = read_number(bytes)?;
+    let (_, rest) = read_name(alloc, rest)?;
+    let (_, rest) = read_number(rest)?;
+    let (_, rest) = read_number(rest)?;
+    let (body, rest) = read_document(alloc, rest)?;
+    read_second(alloc, rest)?;
+    Ok(body)
+}
+
+/// What stands behind a header, in the older form or in that of today.
+fn read_in_form(alloc: Global, legacy: bool, bytes: &[u8]) -> Result<Contents, FrameErr>
+    ensures { Gives (λ c. (c.more, c.body, c.seqs.items)) result (contents_in legacy bytes.now) }
+{
+    if !legacy {
+        return read_contents(alloc, bytes);
+    }
+    let body = read_query(alloc, bytes)?;
+    Ok(Contents {
+        more: false,
+        body,
+        seqs: Vec::new(alloc),
+    })
+}
+
+/// The contents of a message of that many bytes.
+fn read_within_limits(
+    alloc: Global,
+    legacy: bool,
+    len: usize,
+    bytes: &[u8],
+) -> Result<Contents, FrameErr>
+    ensures { Gives (λ c. (c.more, c.body, c.seqs.items)) result (contents_within legacy len bytes.now) }
+{
+    let contents = read_in_form(alloc, legacy, bytes)?;
     if len > CLIENT_MOST && !is_internal(&contents.body) {
         return Err(FrameErr::TooLarge);
     }
     Ok(contents)
+}
+
+/// Whether an operation that is read is the older one.
+fn is_older(op_code: u32) -> Result<bool, FrameErr>
+    ensures { result ≡ is_older op_code }
+{
+    match op_code {
+        OP_MSG => Ok(false),
+        OP_QUERY => Ok(true),
+        _ => Err(FrameErr::OpCode),
+    }
 }
 
 /// The message that is all of the bytes, or its first fault.
@@ -269,32 +331,31 @@ fn read_whole(alloc: Global, bytes: &[u8]) -> Result<Frame, FrameErr>
     if bytes.len() > MOST as usize {
         return Err(FrameErr::TooLarge);
     }
-    if header.op_code != OP_MSG {
-        return Err(FrameErr::OpCode);
-    }
-    let contents = read_within_limits(alloc, bytes.len(), rest)?;
-    Ok(frame(header, contents))
+    let legacy = is_older(header.op_code)?;
+    let contents = read_within_limits(alloc, legacy, bytes.len(), rest)?;
+    Ok(frame(header, legacy, contents))
 }
 
-fn frame(header: Header, contents: Contents) -> Frame
-    ensures { result ≡ frame_by header (contents.more, contents.body, contents.seqs.items) }
+fn frame(header: Header, legacy: bool, contents: Contents) -> Frame
+    ensures { result ≡ frame_by header legacy (contents.more, contents.body, contents.seqs.items) }
 {
     Frame {
         request_id: header.request_id.cast_signed(),
         response_to: header.response_to.cast_signed(),
-        legacy: false,
+        legacy,
         more: contents.more,
         body: contents.body,
         seqs: Items::from_vec(contents.seqs),
     }
 }
 
-/// Reads one message, which is all of the bytes. It is an OP_MSG with one section of kind 0 and any number of kind 1. It
-/// has at most 48,000,000 bytes, or 400,000,000 where the body's first `$db` is the text `mtx`.
+/// Reads one message, which is all of the bytes. It is an OP_MSG with one section of kind 0 and any number of kind 1, or an
+/// OP_QUERY with a document, the body, and maybe a second one, which is dropped. It has at most 48,000,000 bytes, or
+/// 400,000,000 where the body's first `$db` is the text `mtx`.
 ///
-/// The flags exhaustAllowed and 17 to 31 are passed over, and a checksum isn't compared. Otherwise the first fault is
-/// answered, in this order: `Length`; `TooLarge` above 400,000,000; `OpCode`; `Flags`; those of the sections from front to
-/// back; `NoBody`; `TooLarge` for a client's message.
+/// The flags exhaustAllowed and 17 to 31 are passed over, as are all of an OP_QUERY's, and a checksum isn't compared.
+/// Otherwise the first fault is answered, in this order: `Length`; `TooLarge` above 400,000,000; `OpCode`; `Flags`; those of
+/// the parts from front to back; `NoBody`; `TooLarge` for a client's message.
 ///
 /// It goes through the bytes once, and takes no memory for a size before its bytes stand.
 pub fn read_frame(alloc: Global, bytes: &[u8]) -> Result<Frame, FrameErr>

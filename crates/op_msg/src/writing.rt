@@ -1,7 +1,7 @@
-ghost use Rattle.std.specs.Prelude.{◌≡◌, ◌++◌, ◌-◌, ◌^◌, ◌<◌, ◌≤◌, ◌⊎◌, false, length, min, OnOk, OnErr, IfErr};
+ghost use Rattle.std.specs.Prelude.{◌≡◌, ◌++◌, ◌-◌, ◌^◌, ◌<◌, ◌≤◌, ◌⊎◌, true, false, length, min, OnOk, OnErr, IfErr};
 ghost use Rattle.std.specs.List.{flat_map};
 ghost use Rattle.bson_core.specs.Spelling.{spelling};
-ghost use Rattle.op_msg.specs.Message.{front, sequence_section, sequences, sections, flags_of, message};
+ghost use Rattle.op_msg.specs.Message.{front, sequence_section, sequences, sections, flags_of, reply_front, message_by, message};
 
 use crate::frame::{Frame, FrameErr};
 use crate::words::put_word;
@@ -18,7 +18,12 @@ const FRONT_SIZE: u64 = 20;
 /// The bytes of a sequence beside its name and its documents: the kind, the size, and the 00 behind the name.
 const SEQUENCE_FRAME: u64 = 6;
 
+/// The bytes of the header of an OP_REPLY and of its numbers.
+const REPLY_FRONT_SIZE: u64 = 36;
+
 const OP_MSG: u32 = 2013;
+
+const OP_REPLY: u32 = 1;
 
 /// The kind of the section that is the body.
 const BODY: u8 = 0;
@@ -61,13 +66,32 @@ fn sequences_size(seqs: &[(Name, Items<Doc>)]) -> u64
     sum
 }
 
-/// How many bytes the message has.
-fn message_size(frame: &Frame) -> u64
-    ensures { result ≡ min (length (message frame.now)) (2 ^ 64 - 1) }
+/// How many bytes an OP_MSG has.
+fn current_size(frame: &Frame) -> u64
+    ensures { result ≡ min (length (message_by false frame.now)) (2 ^ 64 - 1) }
 {
     let body = size(&frame.body).saturating_add(1);
     let sequences = sequences_size(frame.seqs.as_slice());
     body.saturating_add(sequences).saturating_add(FRONT_SIZE)
+}
+
+/// How many bytes an OP_REPLY has.
+#[tactic(auto, using(crate::proofs::Fronts::length_reply))]
+fn older_size(frame: &Frame) -> u64
+    ensures { result ≡ min (length (message_by true frame.now)) (2 ^ 64 - 1) }
+{
+    size(&frame.body).saturating_add(REPLY_FRONT_SIZE)
+}
+
+/// How many bytes the message has.
+fn message_size(frame: &Frame) -> u64
+    ensures { result ≡ min (length (message frame.now)) (2 ^ 64 - 1) }
+{
+    if frame.legacy {
+        older_size(frame)
+    } else {
+        current_size(frame)
+    }
 }
 
 /// The flags of the message: moreToCome or none.
@@ -148,12 +172,65 @@ fn put_sections(alloc: Global, out: &mut Vec<u8>, frame: &Frame) -> Result<(), F
     put_sequences(alloc, out, frame.seqs.as_slice())
 }
 
+/// Appends the front of an OP_REPLY: the header, with that length, no flags, the cursor 0, and from 0 on one document.
+fn put_reply_front(out: &mut Vec<u8>, len: u32, frame: &Frame) -> Result<(), FrameErr>
+    ensures ok { OnOk result (out.new.items ≡ out.old.items ++ reply_front len frame.now.request_id frame.now.response_to) }
+    ensures refused { IfErr result (λ e. e ≡ FrameErr.Memory) }
+{
+    put_word(out, len)?;
+    put_word(out, frame.request_id.cast_unsigned())?;
+    put_word(out, frame.response_to.cast_unsigned())?;
+    put_word(out, OP_REPLY)?;
+    put_word(out, 0)?;
+    put_word(out, 0)?;
+    put_word(out, 0)?;
+    put_word(out, 0)?;
+    put_word(out, 1)
+}
+
+/// Appends an OP_MSG, which has that many bytes.
+fn put_current(alloc: Global, out: &mut Vec<u8>, len: u32, frame: &Frame) -> Result<(), FrameErr>
+    requires sized { len ≡ length (message_by false frame.now) }
+    requires small { len ≤ MOST }
+    ensures ok { OnOk result (out.new.items ≡ out.old.items ++ message_by false frame.now) }
+    ensures refused { IfErr result (λ e. e ≡ FrameErr.Memory) }
+{
+    put_front(out, len, frame)?;
+    put_sections(alloc, out, frame)?;
+    Ok(())
+}
+
+/// Appends an OP_REPLY, which has that many bytes.
+fn put_older(alloc: Global, out: &mut Vec<u8>, len: u32, frame: &Frame) -> Result<(), FrameErr>
+    requires sized { len ≡ length (message_by true frame.now) }
+    requires small { len ≤ MOST }
+    ensures ok { OnOk result (out.new.items ≡ out.old.items ++ message_by true frame.now) }
+    ensures refused { IfErr result (λ e. e ≡ FrameErr.Memory) }
+{
+    put_reply_front(out, len, frame)?;
+    put_document(alloc, out, &frame.body)?;
+    Ok(())
+}
+
+/// Appends the message, which has that many bytes.
+fn put_message(alloc: Global, out: &mut Vec<u8>, len: u32, frame: &Frame) -> Result<(), FrameErr>
+    requires sized { len ≡ length (message frame.now) }
+    requires small { len ≤ MOST }
+    ensures ok { OnOk result (out.new.items ≡ out.old.items ++ message frame.now) }
+    ensures refused { IfErr result (λ e. e ≡ FrameErr.Memory) }
+{
+    if frame.legacy {
+        put_older(alloc, out, len, frame)
+    } else {
+        put_current(alloc, out, len, frame)
+    }
+}
+
 /// Appends the message's bytes, in its one spelling: the body first, then the sequences, and no checksum. Of the flags
-/// only moreToCome may be set.
+/// only moreToCome may be set. A message in the older form is an OP_REPLY, which has one document: the body alone.
 ///
 /// It goes through a document at most three times for its size, and once for its bytes.
 pub fn write_frame(alloc: Global, frame: &Frame, out: &mut Vec<u8>) -> Result<(), FrameErr>
-    requires { frame.now.legacy ≡ false }
     ensures ok { OnOk result (out.new.items ≡ out.old.items ++ message frame.now) }
     // It is refused exactly where the message is longer than 400,000,000 bytes, or memory runs out.
     ensures too_large { result ≡ Err FrameErr.TooLarge → MOST < length (message frame.now) }
@@ -166,8 +243,7 @@ pub fn write_frame(alloc: Global, frame: &Frame, out: &mut Vec<u8>) -> Result<()
         return Err(FrameErr::TooLarge);
     }
     let mut whole = Vec::new(alloc);
-    put_front(&mut whole, len as u32, frame)?;
-    put_sections(alloc, &mut whole, frame)?;
+    put_message(alloc, &mut whole, len as u32, frame)?;
     out.extend_from_slice(&whole)?;
     Ok(())
 }

@@ -1,7 +1,7 @@
 use Rattle.std.proofs.Common.{ap, arith, length}
 use Rattle.op_msg.specs.Message.{sequences}
 use Rattle.op_msg.proofs.Fronts.{length_sections, length_message}
-use Rattle.op_msg.proofs.writing.message_size.Goals as goal
+use Rattle.op_msg.proofs.writing.current_size.Goals as goal
 
 pub returns : goal.returns
 returns c =
