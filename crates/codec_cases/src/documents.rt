@@ -39,7 +39,11 @@ pub fn read(alloc: Global, digits: &str, limit: &str) -> Result<String, AllocErr
     let Ok(bytes) = hex::decode(alloc, digits) else {
         return String::from_str(alloc, "no digits");
     };
-    match decode(alloc, bytes.as_slice(), limit.parse::<u32>().unwrap_or(LIMIT)) {
+    match decode(
+        alloc,
+        bytes.as_slice(),
+        limit.parse::<u32>().unwrap_or(LIMIT),
+    ) {
         Ok(doc) => printed(alloc, &doc),
         Err(fault) => document_fault(alloc, fault),
     }
