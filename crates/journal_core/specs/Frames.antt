@@ -1,5 +1,6 @@
 -- A journal's file: 16 bytes of header, then frames, then an end gate. A frame is a gate byte A5,
--- the length of its payload in four bytes, low first, and the payload. Any other gate byte is the end.
+-- which is 165, the length of its payload in four bytes, low first, and the payload. Any other gate
+-- byte is the end.
 use Rattle.std.specs.Prelude.{ℕ, zero, suc, ◌+◌, ◌<◌, ◌^◌, ◌==◌, List, [], ◌∷◌, ◌++◌, length, take, drop, Result, Ok, Err, codes, if◌then◌else◌, nat_lt}
 use Rattle.std.specs.Int.{w32, to_le_bytes, from_le_bytes}
 
@@ -37,11 +38,12 @@ abbrev pub joined : List ℕ → Result (List (List ℕ)) ℕ → Result (List (
 joined payload (Ok payloads) = Ok (payload ∷ payloads)
 joined payload (Err place) = Err place
 
--- the frame at a place, with these bytes behind its gate, in front of the payloads that follow; or its
--- place, where it and a next gate don't fit
+-- the payload of the frame at a place, with these bytes behind its gate, in front of those that
+-- follow; or the place, where the frame and a next gate don't fit
 abbrev pub framed : ℕ → List ℕ → Result (List (List ℕ)) ℕ → Result (List (List ℕ)) ℕ
 framed place bytes following =
-    if nat_lt (4 + told_length bytes) (length bytes) then joined (take (told_length bytes) (drop 4 bytes)) following else Err place
+    if nat_lt (4 + told_length bytes) (length bytes) then
+    joined (take (told_length bytes) (drop 4 bytes)) following else Err place
 
 -- The payloads from a place on, or the place of the first gate A5 whose frame and next gate don't
 -- fit. The first bytes, as many as skip says, belong to the frame before.
@@ -49,7 +51,8 @@ abbrev pub payloads_from : ℕ → ℕ → List ℕ → Result (List (List ℕ))
 payloads_from place skip [] = Ok []
 payloads_from place (suc skip) (byte ∷ rest) = payloads_from (place + 1) skip rest
 payloads_from place zero (gate ∷ rest) =
-    if gate == 165 then framed place rest (payloads_from (place + 1) (4 + told_length rest) rest) else Ok []
+    if gate == 165 then framed place rest (payloads_from (place + 1) (4 + told_length rest) rest)
+    else Ok []
 
 -- the first place from this one on where the file doesn't begin as this says
 abbrev pub read_behind : ℕ → List ℕ → List ℕ → Result (List (List ℕ)) ℕ
