@@ -112,6 +112,13 @@ impl<D: Disk> Journal<D> {
         self.end
     }
 
+    /// How often a call of its disk has failed; it stands still at 2^64 - 1.
+    pub fn faults(&self) -> u64
+        ensures { result ≡ D.fault_count self.now.disk }
+    {
+        self.disk.faults()
+    }
+
     /// The disk, to start again.
     pub fn into_disk(self) -> D
         ensures { result ≡ self.disk }
