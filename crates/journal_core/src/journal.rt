@@ -1,4 +1,4 @@
-ghost use Rattle.std.specs.Prelude.{◌≡◌, ◌↔◌, ◌⊎◌, ◌≤◌, ◌<◌, ◌+◌, ◌++◌, [], ◌∷◌, ℕ, List, Ok, false, IsTrue, IfOk, IfErr, OnOk, OnErr, IsErrOf, length, is_err, map};
+ghost use Rattle.std.specs.Prelude.{◌≡◌, ◌≢◌, ◌↔◌, ◌⊎◌, ◌≤◌, ◌<◌, ◌+◌, ◌++◌, [], ◌∷◌, ℕ, List, Ok, false, IsTrue, IfOk, IfErr, OnOk, OnErr, IsErrOf, length, is_err, map};
 ghost use Rattle.outcomes.specs.Causes.{FailsOnly, Rose};
 ghost use Rattle.outside_core.specs.Crash.{LeavesOnly};
 ghost use Rattle.journal_core.specs.Frames.{payloads_of, end_of};
@@ -65,6 +65,9 @@ impl<D: Disk> Journal<D> {
             → IfOk result (λ j.
             IsAtRest (D.seen j.disk) (D.may_leave j.disk) j.frames j.count j.end) }
         ensures refused { IfErr result (λ e. Refuses (IsTrue (D.tells disk)) (D.seen disk) e.0) }
+        // A file that is at fault stays as it is.
+        ensures kept { IsTrue (D.tells disk) → IfErr result (λ e.
+            e.0 ≢ JournalErr.DiskFault → D.seen e.1 ≡ D.seen disk) }
         ensures later { D.fault_count disk ≤ D.fault_count (disk_of result) }
         ensures fault { IfErr result (λ e.
             e.0 ≡ JournalErr.DiskFault → Rose (D.fault_count disk) (D.fault_count e.1)) }
@@ -192,6 +195,8 @@ impl<D: Disk> Journal<D> {
         ensures closed { IsErrOf result JournalErr.Closed ↔ IsTrue self.old.closed }
         ensures refused { IsTrue self.old.closed → self.new ≡ self.old }
         ensures closes { self.new.closed ≡ is_err result }
+        ensures same { OnErr result
+            ((self.new.count ≡ self.old.count) × (self.new.end ≡ self.old.end)) }
         ensures errors { IfErr result (λ e.
             (e ≡ JournalErr.DiskFault) ⊎ (e ≡ JournalErr.Closed)) }
         ensures faults { FailsOnly JournalErr.DiskFault

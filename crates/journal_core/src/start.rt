@@ -1,5 +1,5 @@
 // A start: what is on the disk for good, the frames of it, and its end mended.
-ghost use Rattle.std.specs.Prelude.{◌≡◌, ◌<◌, ◌≤◌, ◌+◌, ◌^◌, ℕ, List, IsTrue, IfOk, IfErr, OnOk, length, Ok};
+ghost use Rattle.std.specs.Prelude.{◌≡◌, ◌≢◌, ◌<◌, ◌≤◌, ◌+◌, ◌^◌, ℕ, List, IsTrue, IfOk, IfErr, OnOk, length, Ok};
 ghost use Rattle.outcomes.specs.Causes.{FailsOnly};
 ghost use Rattle.outside_core.specs.Crash.{Only, LeavesOnly};
 ghost use Rattle.journal_core.specs.Frames.{payloads_of, frames_on};
@@ -38,6 +38,9 @@ fn resume<D: Disk>(disk: &mut D, len: u64) -> Result<Found, JournalErr>
         × IsAtRest (D.seen disk.new) (D.may_leave disk.new)
         (frames_on (D.seen disk.new)) found.count found.end) }
     ensures refused { IfErr result (Refuses (IsTrue (D.tells disk.old)) (D.seen disk.old)) }
+    // A file that is at fault stays as it is.
+    ensures kept { IsTrue (D.tells disk.old)
+        → IfErr result (λ e. e ≢ JournalErr.DiskFault → D.seen disk.new ≡ D.seen disk.old) }
     ensures any_moment { IsTrue (D.tells disk.old) → Only (D.seen disk.old) (D.may_leave disk.old)
         → (frames : List (List ℕ)) (hand : List ℕ) → Leaves frames hand (D.seen disk.old)
         → LeavesOnly D.moment D.left_since disk.old disk.new (Leaves frames hand) }
@@ -60,6 +63,9 @@ pub fn open<D: Disk>(disk: &mut D) -> Result<Found, JournalErr>
         × IsAtRest (D.seen disk.new) (D.may_leave disk.new)
         (frames_on (D.seen disk.new)) found.count found.end) }
     ensures refused { IfErr result (Refuses (IsTrue (D.tells disk.old)) (D.seen disk.old)) }
+    // A file that is at fault stays as it is.
+    ensures kept { IsTrue (D.tells disk.old)
+        → IfErr result (λ e. e ≢ JournalErr.DiskFault → D.seen disk.new ≡ D.seen disk.old) }
     ensures any_moment { IsTrue (D.tells disk.old)
         → (frames : List (List ℕ)) (hand : List ℕ)
         → ((c : List ℕ) → D.may_leave disk.old c → Leaves frames hand c)
