@@ -1,0 +1,9 @@
+pub mod Appends
+pub mod Gathering
+pub mod Meaning
+pub mod Mends
+pub mod Reading
+pub mod Resumes
+pub mod Spelling
+pub mod Walks
+pub mod Writes
