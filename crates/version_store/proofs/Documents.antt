@@ -14,6 +14,7 @@ use Rattle.txn_types.specs.declared.names.Tag.{Tag}
 use Rattle.txn_types.proofs.Orders.{id_total, id_exact}
 use Rattle.txn_semantics.specs.Keyed.{put, AllAbove, Rises}
 use Rattle.txn_semantics.specs.Rows.{Row}
+use Rattle.txn_semantics.specs.Touched.{Touched}
 use Rattle.txn_semantics.proofs.Laying as laying
 use Rattle.version_store.specs.declared.refusal.ScanErr.{ScanErr}
 use Rattle.version_store.specs.declared.refusal.ScanErr.TheVariants as scanning
@@ -189,6 +190,32 @@ same_filter p q (row ∷ docs) h = ap (λ (b : Bool). cond b (row ∷ filter p d
 pub found_sorted : (sorted ids : List Id) (docs : Documents) → IsStrictlySortedBy id_cmp sorted → ((id : Id) → list_any (same_id id) sorted ≡ list_any (same_id id) ids) → Rises id_cmp docs
     → found_of docs sorted ≡ touched_of (Some ids) docs
 found_sorted sorted ids docs rising same r = found_among sorted docs rising r ∙ same_filter (Among sorted) (Among ids) docs (λ row. same row.0)
+
+all_touched : (docs : Documents) → touched_of None docs ≡ docs
+all_touched [] = refl
+all_touched (row ∷ docs) = ap (λ (xs : Documents). row ∷ xs) (all_touched docs)
+
+pub touched_all : (ids : Touched) (docs : Documents) → ids ≡ None → touched_of ids docs ≡ docs
+touched_all ids docs is = ap (λ (o : Touched). touched_of o docs) is ∙ all_touched docs
+
+-- an id more among the sorted ones
+more_case : (old left : Bool) (b : Bool) → (cond b true old || left) ≡ (old || (b || left))
+more_case true left true = refl
+more_case true left false = refl
+more_case false left true = refl
+more_case false left false = refl
+
+either_way : (a b : Id) (o : Ordering) → id_cmp a b ≡ o → is_eq (id_cmp a b) ≡ same_id b a
+either_way a b Less is = ap is_eq is ∙ sym (greater a b is)
+either_way a b Equal is = ap is_eq is ∙ sym (equal a b is)
+either_way a b Greater is = ap is_eq is ∙ sym (less a b is)
+
+pub sorted_on : (id key item : Id) (now old left all : Bool) → key ≡ item → now ≡ cond (is_eq (id_cmp key id)) true old → (old || (same_id id item || left)) ≡ all → (now || left) ≡ all
+sorted_on id key item now old left all is new so_far =
+    ap (λ (b : Bool). b || left) new
+    ∙ more_case old left (is_eq (id_cmp key id))
+    ∙ ap (λ (b : Bool). old || (b || left)) (either_way key id (id_cmp key id) refl ∙ ap (same_id id) is)
+    ∙ so_far
 
 -- a scan goes on past a document that isn't held
 pub record IsScanned (at : ℕ) (tag : Tag) (rows : List Row) (left docs : Documents) : Type 0 where

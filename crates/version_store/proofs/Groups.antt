@@ -91,12 +91,25 @@ laid_there tag ns id version docs new groups store e r there is =
     ap flattened (keyed.written ns_cmp nat_list_cmp_total exact_bytes ns new docs groups r there)
     ∙ laid tag ns id version docs new groups store e r (group_found ns docs groups there) is
 
-pub laid_new : (tag : Tag) (ns : List ℕ) (id : Id) (version : Version) (docs new : Documents) (now groups : Groups) (store : Versions) → now ≡ groups → flattened groups ≡ store → Rises ns_cmp groups
-    → lookup (is_at (ns_cmp ns)) groups ≡ None → docs ≡ [] → new ≡ put id_cmp id (version ∷ without tag (versions_at id_cmp id docs)) docs
+pub laid_new : (tag : Tag) (ns : List ℕ) (id : Id) (version : Version) (new : Documents) (now groups : Groups) (store : Versions) → now ≡ groups → flattened groups ≡ store → Rises ns_cmp groups
+    → lookup (is_at (ns_cmp ns)) groups ≡ None → new ≡ (id, version ∷ []) ∷ []
     → flattened (insert_entry ns_cmp now ns new) ≡ put place_cmp (ns, id) (version ∷ without tag (versions_of store (ns, id))) store
-laid_new tag ns id version docs new now groups store same e r there empty is =
+laid_new tag ns id version new now groups store same e r there is =
     ap flattened (keyed.inserted ns_cmp nat_list_cmp_total exact_bytes ns new now ∙ ap (put ns_cmp ns new) same)
-    ∙ laid tag ns id version docs new groups store e r (group_absent ns groups there ∙ sym empty) is
+    ∙ laid tag ns id version [] new groups store e r (group_absent ns groups there) is
+
+-- by what the trees tell of it
+pub set_laid : {T E : Type 0} (tag : Tag) (ns : List ℕ) (id : Id) (version : Version) (docs new : Documents) (groups left : Groups) (store : Versions) (r : Result T E) → flattened groups ≡ store → Rises ns_cmp groups
+    → lookup (is_at (ns_cmp ns)) groups ≡ Some docs → left ≡ set_value (is_at (ns_cmp ns)) groups new → OnOk r (new ≡ put id_cmp id (version ∷ without tag (versions_at id_cmp id docs)) docs)
+    → OnOk r (flattened left ≡ put place_cmp (ns, id) (version ∷ without tag (versions_of store (ns, id))) store)
+set_laid tag ns id version docs new groups left store (Ok t) e r there set is = ap flattened set ∙ laid_there tag ns id version docs new groups store e r there is
+set_laid tag ns id version docs new groups left store (Err f) e r there set is = tt
+
+pub insert_laid : {T E : Type 0} (tag : Tag) (ns : List ℕ) (id : Id) (version : Version) (new : Documents) (now groups left : Groups) (store : Versions) (r : Result T E) → now ≡ groups → flattened groups ≡ store → Rises ns_cmp groups
+    → lookup (is_at (ns_cmp ns)) groups ≡ None → new ≡ (id, version ∷ []) ∷ [] → OnOk r (left ≡ insert_entry ns_cmp now ns new)
+    → OnOk r (flattened left ≡ put place_cmp (ns, id) (version ∷ without tag (versions_of store (ns, id))) store)
+insert_laid tag ns id version new now groups left store (Ok t) same e r there is ok = ap flattened ok ∙ laid_new tag ns id version new now groups store same e r there is
+insert_laid tag ns id version new now groups left store (Err f) same e r there is ok = tt
 
 -- and still collections
 kept_put : (tag : Tag) (id : Id) (version : Version) (docs new : Documents) → new ≡ put id_cmp id (version ∷ without tag (versions_at id_cmp id docs)) docs
@@ -115,13 +128,11 @@ kept_there tag ns id version docs new groups (Err f) ok err there free h =
 none_is_collection : IsCollection []
 none_is_collection = record { rises = tt; histories = tt }
 
-pub kept_new : {T E : Type 0} (tag : Tag) (ns : List ℕ) (id : Id) (version : Version) (docs new : Documents) (now groups left : Groups) (r : Result T E) → now ≡ groups → docs ≡ []
-    → new ≡ put id_cmp id (version ∷ without tag (versions_at id_cmp id docs)) docs → OnOk r (left ≡ insert_entry ns_cmp now ns new) → OnErr r (left ≡ now) → Each IsCollection groups → Each IsCollection left
-kept_new tag ns id version docs new now groups left (Ok t) same empty is ok err h =
-    let free : first (filter_map (other_writer_of tag) (versions_at id_cmp id docs)) ≡ None = ap (λ (d : Documents). first (filter_map (other_writer_of tag) (versions_at id_cmp id d))) empty in
-    let collection : IsCollection new = kept_put tag id version docs new is free (subst IsCollection (sym empty) none_is_collection) in
+pub kept_new : {T E : Type 0} (ns : List ℕ) (id : Id) (version : Version) (new : Documents) (now groups left : Groups) (r : Result T E) → now ≡ groups → new ≡ (id, version ∷ []) ∷ [] → OnOk r (left ≡ insert_entry ns_cmp now ns new) → OnErr r (left ≡ now) → Each IsCollection groups → Each IsCollection left
+kept_new ns id version new now groups left (Ok t) same is ok err h =
+    let collection : IsCollection new = subst IsCollection (sym is) (collection_put id (version ∷ []) [] (refl, tt) none_is_collection) in
     subst (Each IsCollection) (sym (ok ∙ keyed.inserted ns_cmp nat_list_cmp_total exact_bytes ns new now ∙ ap (put ns_cmp ns new) same)) (each_put ns_cmp IsCollection ns new groups collection h)
-kept_new tag ns id version docs new now groups left (Err f) same empty is ok err h = subst (Each IsCollection) (sym (err ∙ same)) h
+kept_new ns id version new now groups left (Err f) same is ok err h = subst (Each IsCollection) (sym (err ∙ same)) h
 
 -- the same documents again
 pub left_there : (ns : List ℕ) (docs new : Documents) (groups : Groups) (store : Versions) → flattened groups ≡ store → lookup (is_at (ns_cmp ns)) groups ≡ Some docs → new ≡ docs

@@ -117,34 +117,35 @@ module _ {K V : Type 0} (cmp : K → K → Ordering) where
   rises_filter p [] h = tt
   rises_filter p (row ∷ rows) h = rises_filter_case row (filter p rows) (p row) (above_filter p row.0 rows h.0) (rises_filter p rows h.1)
 
+empty_left : (f : Line → Line) (line : Line) → f [] ≡ [] → is_some (first line) ≡ false → is_some (first (f line)) ≡ false
+empty_left f [] e h = ap (λ (l : Line). is_some (first l)) e
+empty_left f (version ∷ line) e h = cc
+
 -- where each key has a version, all stay
 module _ {K : Type 0} where
-  abbrev pub Rows : Type 0
-  Rows = List (K × Line)
-
-  lost : (row : K × Line) (rows : Rows) → is_some (first row.1) ≡ false → with_versions (row ∷ rows) ≡ with_versions rows
+  lost : (row : K × Line) (rows : List (K × Line)) → is_some (first row.1) ≡ false → with_versions (row ∷ rows) ≡ with_versions rows
   lost row rows h = ap (λ (b : Bool). cond b (row ∷ with_versions rows) (with_versions rows)) h
 
-  stays : (row : K × Line) (rows : Rows) → is_some (first row.1) ≡ true → with_versions (row ∷ rows) ≡ row ∷ with_versions rows
+  stays : (row : K × Line) (rows : List (K × Line)) → is_some (first row.1) ≡ true → with_versions (row ∷ rows) ≡ row ∷ with_versions rows
   stays row rows h = ap (λ (b : Bool). cond b (row ∷ with_versions rows) (with_versions rows)) h
 
-  pub kept_all : (rows : Rows) → Each IsHistory rows → with_versions rows ≡ rows
+  pub kept_all : (rows : List (K × Line)) → Each IsHistory rows → with_versions rows ≡ rows
   kept_all [] h = refl
-  kept_all (row ∷ rows) h = stays row rows h.0.0 ∙ ap (λ (xs : Rows). row ∷ xs) (kept_all rows h.1)
+  kept_all (row ∷ rows) h = stays row rows h.0.0 ∙ ap (λ (xs : List (K × Line)). row ∷ xs) (kept_all rows h.1)
 
-  left_case : (row : K × Line) (xs : Rows) (b : Bool) → is_some (first row.1) ≡ b → IsChain row.1 → Each IsHistory xs → Each IsHistory (cond b (row ∷ xs) xs)
+  left_case : (row : K × Line) (xs : List (K × Line)) (b : Bool) → is_some (first row.1) ≡ b → IsChain row.1 → Each IsHistory xs → Each IsHistory (cond b (row ∷ xs) xs)
   left_case row xs true is h more = ((is, h), more)
   left_case row xs false is h more = more
 
-  pub left_histories : (rows : Rows) → Each IsChain rows → Each IsHistory (with_versions rows)
+  pub left_histories : (rows : List (K × Line)) → Each IsChain rows → Each IsHistory (with_versions rows)
   left_histories [] h = tt
   left_histories (row ∷ rows) h = left_case row (with_versions rows) (is_some (first row.1)) refl h.0 (left_histories rows h.1)
 
-  has_case : (row : K × Line) (xs : Rows) (b : Bool) → is_some (first row.1) ≡ b → with_versions xs ≡ xs → with_versions (cond b (row ∷ xs) xs) ≡ cond b (row ∷ xs) xs
-  has_case row xs true is h = stays row xs is ∙ ap (λ (ys : Rows). row ∷ ys) h
+  has_case : (row : K × Line) (xs : List (K × Line)) (b : Bool) → is_some (first row.1) ≡ b → with_versions xs ≡ xs → with_versions (cond b (row ∷ xs) xs) ≡ cond b (row ∷ xs) xs
+  has_case row xs true is h = stays row xs is ∙ ap (λ (ys : List (K × Line)). row ∷ ys) h
   has_case row xs false is h = h
 
-  pub kept_twice : (rows : Rows) → with_versions (with_versions rows) ≡ with_versions rows
+  pub kept_twice : (rows : List (K × Line)) → with_versions (with_versions rows) ≡ with_versions rows
   kept_twice [] = refl
   kept_twice (row ∷ rows) = has_case row (with_versions rows) (is_some (first row.1)) refl (kept_twice rows)
 
@@ -190,17 +191,16 @@ module _ {K : Type 0} (cmp : K → K → Ordering) (total : IsTotalOrder cmp) (e
   removed f key (row ∷ rows) r h there = removed_case f key row rows (cmp key row.0) refl r h there (removed f key rows r.1 h.1)
 
   -- what has no version is taken out now or later
-  none_left : (f : Line → Line) (line : Line) → f [] ≡ [] → (k : K) (b : Bool) → is_some (first line) ≡ false → is_some (first (cond b (k, f line) (k, line)).1) ≡ false
-  none_left f [] e k true h = ap (λ (l : Line). is_some (first l)) e
-  none_left f [] e k false h = refl
-  none_left f (version ∷ line) e k b h = cc
+  none_left : (f : Line → Line) (row : K × Line) (b : Bool) → f [] ≡ [] → is_some (first row.1) ≡ false → is_some (first (cond b (row.0, f row.1) row).1) ≡ false
+  none_left f row true e h = empty_left f row.1 e h
+  none_left f row false e h = h
 
   once_by : (f : Line → Line) (key : K) → f [] ≡ [] → (row : K × Line) (rows : List (K × Line)) (b : Bool) → is_some (first row.1) ≡ b
       → with_versions (changed_at cmp f key (with_versions rows)) ≡ with_versions (changed_at cmp f key rows)
       → with_versions (changed_at cmp f key (cond b (row ∷ with_versions rows) (with_versions rows))) ≡ with_versions (changed_at cmp f key (row ∷ rows))
   once_by f key e row rows true is h =
       ap (λ (xs : List (K × Line)). cond (is_some (first (cond (is_eq (cmp key row.0)) (row.0, f row.1) row).1)) (cond (is_eq (cmp key row.0)) (row.0, f row.1) row ∷ xs) xs) h
-  once_by f key e row rows false is h = h ∙ sym (lost (cond (is_eq (cmp key row.0)) (row.0, f row.1) row) (changed_at cmp f key rows) (none_left f row.1 e row.0 (is_eq (cmp key row.0)) is))
+  once_by f key e row rows false is h = h ∙ sym (lost (cond (is_eq (cmp key row.0)) (row.0, f row.1) row) (changed_at cmp f key rows) (none_left f row (is_eq (cmp key row.0)) e is))
 
   once : (f : Line → Line) (key : K) → f [] ≡ [] → (rows : List (K × Line)) → with_versions (changed_at cmp f key (with_versions rows)) ≡ with_versions (changed_at cmp f key rows)
   once f key e [] = refl

@@ -13,6 +13,14 @@ use Rattle.txn_semantics.specs.Keyed.{put, AllAbove, Rises}
 use Rattle.txn_semantics.proofs.Laying as laying
 use Rattle.version_store.specs.Chains.{changed_at, changed_under}
 
+-- each of the keys is above this one
+abbrev pub AllOver : {K : Type 0} → (K → K → Ordering) → K → List K → Type 0
+AllOver cmp key [] = Unit {0}
+AllOver cmp key (other ∷ others) = (cmp key other ≡ Less) × AllOver cmp key others
+
+back_less : {K : Type 0} (cmp : K → K → Ordering) → IsTotalOrder cmp → (a b : K) → cmp a b ≡ Less → cmp b a ≡ Greater
+back_less cmp total a b h = total.antisymm b a ∙ ap ordering_reverse h
+
 module _ {K V : Type 0} (cmp : K → K → Ordering) where
   -- the keys of a tree rise
   all_above : (key : K) (rows : List (K × V)) → AllByRecursion (λ q. cmp key q ≡ Less) (map_keys rows) → AllAbove cmp key rows
@@ -163,14 +171,7 @@ module _ {K V : Type 0} (cmp : K → K → Ordering) (total : IsTotalOrder cmp) 
   set_to f key w new rows is r there = ap (set_value (is_at (cmp key)) rows) is ∙ set_is_change f key w rows r there
 
   -- changes under keys above the first leave it
-  abbrev pub AllOver : K → List K → Type 0
-  AllOver key [] = Unit {0}
-  AllOver key (other ∷ others) = (cmp key other ≡ Less) × AllOver key others
-
-  pub back_less : (a b : K) → cmp a b ≡ Less → cmp b a ≡ Greater
-  back_less a b h = total.antisymm b a ∙ ap ordering_reverse h
-
-  pub changed_behind : (f : V → V) (keys : List K) (row : K × V) (rows : List (K × V)) → AllOver row.0 keys → changed_under cmp f keys (row ∷ rows) ≡ row ∷ changed_under cmp f keys rows
+  pub changed_behind : (f : V → V) (keys : List K) (row : K × V) (rows : List (K × V)) → AllOver cmp row.0 keys → changed_under cmp f keys (row ∷ rows) ≡ row ∷ changed_under cmp f keys rows
   changed_behind f [] row rows h = refl
   changed_behind f (key ∷ keys) row rows h =
-      ap (changed_under cmp f keys) (left_alone cmp f key row rows Greater (back_less row.0 key h.0) refl) ∙ changed_behind f keys row (changed_at cmp f key rows) h.1
+      ap (changed_under cmp f keys) (left_alone cmp f key row rows Greater (back_less cmp total row.0 key h.0) refl) ∙ changed_behind f keys row (changed_at cmp f key rows) h.1

@@ -24,7 +24,7 @@ abbrev pub AllRise : {A B V : Type 0} → (B → B → Ordering) → List (A × 
 AllRise second [] = Unit {0}
 AllRise second (group ∷ groups) = Rises second group.1 × AllRise second groups
 
-module _ {A B V : Type 0} (first : A → A → Ordering) (second : B → B → Ordering) (total : IsTotalOrder first) (exact : CmpEqualImpliesEq first) where
+module _ {A B : Type 0} (first : A → A → Ordering) (second : B → B → Ordering) (total : IsTotalOrder first) (exact : CmpEqualImpliesEq first) where
   -- where two keys stand
   stand_apart : (a b : A) (i j : B) (o : Ordering) → first a b ≡ o → is_eq o ≡ false → both first second (a, i) (b, j) ≡ o
   stand_apart a b i j Less is h = ap (λ (o : Ordering). ordering_then o (second i j)) is
@@ -34,6 +34,7 @@ module _ {A B V : Type 0} (first : A → A → Ordering) (second : B → B → O
   stand_so : (a : A) (i j : B) → both first second (a, i) (a, j) ≡ second i j
   stand_so a i j = ap (λ (o : Ordering). ordering_then o (second i j)) (laying.cmp_self first total exact a)
 
+module _ {A B V : Type 0} (first : A → A → Ordering) (second : B → B → Ordering) (total : IsTotalOrder first) (exact : CmpEqualImpliesEq first) where
   -- the keys rise
   above_append : (key : A × B) (xs ys : List ((A × B) × V)) → AllAbove (both first second) key xs → AllAbove (both first second) key ys → AllAbove (both first second) key (xs ++ ys)
   above_append key [] ys h more = more
@@ -41,11 +42,11 @@ module _ {A B V : Type 0} (first : A → A → Ordering) (second : B → B → O
 
   above_under : (a : A) (i : B) (rows : List (B × V)) → AllAbove second i rows → AllAbove (both first second) (a, i) (under_first a rows)
   above_under a i [] h = tt
-  above_under a i (row ∷ rows) h = (stand_so a i row.0 ∙ h.0, above_under a i rows h.1)
+  above_under a i (row ∷ rows) h = (stand_so first second total exact a i row.0 ∙ h.0, above_under a i rows h.1)
 
   above_other : (a b : A) (i : B) (rows : List (B × V)) → first a b ≡ Less → AllAbove (both first second) (a, i) (under_first b rows)
   above_other a b i [] h = tt
-  above_other a b i (row ∷ rows) h = (stand_apart a b i row.0 Less h refl, above_other a b i rows h)
+  above_other a b i (row ∷ rows) h = (stand_apart first second total exact a b i row.0 Less h refl, above_other a b i rows h)
 
   pub above_groups : (a : A) (i : B) (groups : List (A × List (B × V))) → AllAbove first a groups → AllAbove (both first second) (a, i) (flattened groups)
   above_groups a i [] h = tt
@@ -66,13 +67,13 @@ module _ {A B V : Type 0} (first : A → A → Ordering) (second : B → B → O
       → lookup (is_at (both first second (a, i))) (under_first b rows ++ rest) ≡ lookup (is_at (both first second (a, i))) rest
   found_past a b i [] rest o is h = refl
   found_past a b i (row ∷ rows) rest o is h =
-      keyed.passed (both first second) (a, i) ((b, row.0), row.1) (under_first b rows ++ rest) o (stand_apart a b i row.0 o is h) h ∙ found_past a b i rows rest o is h
+      keyed.passed (both first second) (a, i) ((b, row.0), row.1) (under_first b rows ++ rest) o (stand_apart first second total exact a b i row.0 o is h) h ∙ found_past a b i rows rest o is h
 
   found_within : (a : A) (i : B) (rows : List (B × V)) (rest : List ((A × B) × V)) → lookup (is_at (both first second (a, i))) rest ≡ None
       → lookup (is_at (both first second (a, i))) (under_first a rows ++ rest) ≡ lookup (is_at (second i)) rows
   found_within a i [] rest none = none
   found_within a i (row ∷ rows) rest none =
-      ap (λ (o : Ordering). cond (is_eq o) (Some row.1) (lookup (is_at (both first second (a, i))) (under_first a rows ++ rest))) (stand_so a i row.0)
+      ap (λ (o : Ordering). cond (is_eq o) (Some row.1) (lookup (is_at (both first second (a, i))) (under_first a rows ++ rest))) (stand_so first second total exact a i row.0)
       ∙ ap (λ (r : Option V). cond (is_eq (second i row.0)) (Some row.1) r) (found_within a i rows rest none)
 
   abbrev pub group_of : A → List (A × List (B × V)) → List (B × V)
@@ -110,20 +111,20 @@ module _ {A B V : Type 0} (first : A → A → Ordering) (second : B → B → O
       → put (both first second) (a, i) v (under_first b rows ++ rest) ≡ under_first b rows ++ put (both first second) (a, i) v rest
   put_past a b i v [] rest is = refl
   put_past a b i v (row ∷ rows) rest is =
-      keyed.put_behind (both first second) (a, i) v ((b, row.0), row.1) (under_first b rows ++ rest) (stand_apart a b i row.0 Greater is refl)
+      keyed.put_behind (both first second) (a, i) v ((b, row.0), row.1) (under_first b rows ++ rest) (stand_apart first second total exact a b i row.0 Greater is refl)
       ∙ ap (λ (xs : List ((A × B) × V)). ((b, row.0), row.1) ∷ xs) (put_past a b i v rows rest is)
 
   within_case : (a : A) (i : B) (v : V) (row : B × V) (rows : List (B × V)) (rest : List ((A × B) × V)) (o : Ordering) → second i row.0 ≡ o
       → put (both first second) (a, i) v (under_first a rows ++ rest) ≡ under_first a (put second i v rows) ++ rest
       → put (both first second) (a, i) v (under_first a (row ∷ rows) ++ rest) ≡ under_first a (put second i v (row ∷ rows)) ++ rest
   within_case a i v row rows rest Less is h =
-      keyed.put_before (both first second) (a, i) v ((a, row.0), row.1) (under_first a rows ++ rest) (stand_so a i row.0 ∙ is)
+      keyed.put_before (both first second) (a, i) v ((a, row.0), row.1) (under_first a rows ++ rest) (stand_so first second total exact a i row.0 ∙ is)
       ∙ ap (λ (xs : List (B × V)). under_first a xs ++ rest) (sym (keyed.put_before second i v row rows is))
   within_case a i v row rows rest Equal is h =
-      keyed.put_here (both first second) (a, i) v ((a, row.0), row.1) (under_first a rows ++ rest) (stand_so a i row.0 ∙ is)
+      keyed.put_here (both first second) (a, i) v ((a, row.0), row.1) (under_first a rows ++ rest) (stand_so first second total exact a i row.0 ∙ is)
       ∙ ap (λ (xs : List (B × V)). under_first a xs ++ rest) (sym (keyed.put_here second i v row rows is))
   within_case a i v row rows rest Greater is h =
-      keyed.put_behind (both first second) (a, i) v ((a, row.0), row.1) (under_first a rows ++ rest) (stand_so a i row.0 ∙ is)
+      keyed.put_behind (both first second) (a, i) v ((a, row.0), row.1) (under_first a rows ++ rest) (stand_so first second total exact a i row.0 ∙ is)
       ∙ ap (λ (xs : List ((A × B) × V)). ((a, row.0), row.1) ∷ xs) h
       ∙ ap (λ (xs : List (B × V)). under_first a xs ++ rest) (sym (keyed.put_behind second i v row rows is))
 
@@ -161,19 +162,22 @@ module _ {A B V : Type 0} (first : A → A → Ordering) (second : B → B → O
   changed_past : (f : V → V) (a b : A) (i : B) (rows : List (B × V)) (o : Ordering) → first a b ≡ o → is_eq o ≡ false → changed_at (both first second) f (a, i) (under_first b rows) ≡ under_first b rows
   changed_past f a b i [] o is h = refl
   changed_past f a b i (row ∷ rows) o is h =
-      keyed.left_alone (both first second) f (a, i) ((b, row.0), row.1) (under_first b rows) o (stand_apart a b i row.0 o is h) h
+      keyed.left_alone (both first second) f (a, i) ((b, row.0), row.1) (under_first b rows) o (stand_apart first second total exact a b i row.0 o is h) h
       ∙ ap (λ (xs : List ((A × B) × V)). ((b, row.0), row.1) ∷ xs) (changed_past f a b i rows o is h)
 
-  paired : (a : A) (f : V → V) (row : B × V) (b : Bool) → cond b ((a, row.0), f row.1) ((a, row.0), row.1) ≡ ((a, (cond b (row.0, f row.1) row).0), (cond b (row.0, f row.1) row).1)
+  abbrev under : A → B × V → (A × B) × V
+  under a row = ((a, row.0), row.1)
+
+  paired : (a : A) (f : V → V) (row : B × V) (b : Bool) → cond b (under a (row.0, f row.1)) (under a row) ≡ under a (cond b (row.0, f row.1) row)
   paired a f row true = refl
   paired a f row false = refl
 
   changed_within : (f : V → V) (a : A) (i : B) (rows : List (B × V)) → changed_at (both first second) f (a, i) (under_first a rows) ≡ under_first a (changed_at second f i rows)
   changed_within f a i [] = refl
   changed_within f a i (row ∷ rows) =
-      ap (λ (o : Ordering). cond (is_eq o) ((a, row.0), f row.1) ((a, row.0), row.1) ∷ changed_at (both first second) f (a, i) (under_first a rows)) (stand_so a i row.0)
+      ap (λ (o : Ordering). cond (is_eq o) ((a, row.0), f row.1) ((a, row.0), row.1) ∷ changed_at (both first second) f (a, i) (under_first a rows)) (stand_so first second total exact a i row.0)
       ∙ ap (λ (x : (A × B) × V). x ∷ changed_at (both first second) f (a, i) (under_first a rows)) (paired a f row (is_eq (second i row.0)))
-      ∙ ap (λ (xs : List ((A × B) × V)). ((a, (cond (is_eq (second i row.0)) (row.0, f row.1) row).0), (cond (is_eq (second i row.0)) (row.0, f row.1) row).1) ∷ xs) (changed_within f a i rows)
+      ∙ ap (λ (xs : List ((A × B) × V)). under a (cond (is_eq (second i row.0)) (row.0, f row.1) row) ∷ xs) (changed_within f a i rows)
 
   -- the change under both parts, as a change under the first
   abbrev pub change_both : (V → V) → A → B → List (A × List (B × V)) → List (A × List (B × V))

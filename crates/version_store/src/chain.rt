@@ -88,7 +88,7 @@ pub fn holder(at: Ts, tag: &Tag, versions: &[Version]) -> Option<(Tag, Ts)>
 }
 
 /// The transaction's own version.
-fn own<'a>(tag: &Tag, versions: &'a [Version]) -> Option<&'a Version>
+pub fn own<'a>(tag: &Tag, versions: &'a [Version]) -> Option<&'a Version>
     ensures { option_copied result ≡ find (is_of tag.now) versions.now }
 {
     for version in versions {

@@ -16,14 +16,15 @@ ghost use Rattle.version_store.specs.Refusals.{IsRefused, IsHeld};
 
 use crate::chain::{against, holder, newest_of, seen};
 use crate::collection::Collection;
-use crate::key::Key;
+use crate::key::{Key, Keys};
 use crate::refusal::{PutErr, ScanErr};
 use crate::version::{Stamp, Version};
 use bson_core::Doc;
-use std::alloc::Global;
+use sqlite_items::Items;
+use std::alloc::{AllocError, Global};
 use std::collections::BTreeMap;
 use std::marker::Model;
-use txn_types::{Id, Ns, Tag, Ts, Write};
+use txn_types::{By, Id, Ns, Tag, Ts, Write};
 
 /// The versions of all documents. Contracts see them by key: the keys rise, each has a version, and all versions of a
 /// key but the first are committed.
@@ -123,6 +124,24 @@ impl Store {
         newest_of(self.versions(ns, id))
     }
 
+    /// What stands against a write of the transaction there. It takes no memory.
+    pub fn against(&self, ns: &Ns, id: &Id, at: Ts, tag: Tag) -> Option<By>
+        ensures { result ≡ against at tag (versions_of self.now (ns.now, id.now)) }
+    {
+        against(at, &tag, self.versions(ns, id))
+    }
+
+    /// The keys of the documents with a version of the transaction, in their order.
+    pub fn keys(&self, tag: Tag) -> Result<Keys, AllocError>
+        ensures { IfOk result (λ keys. keys ≡ keys_of tag self.now) }
+    {
+        let mut keys = Vec::new(self.alloc);
+        for (ns, collection) in &self.collections {
+            collection.add_keys(self.alloc, ns, &tag, &mut keys)?;
+        }
+        Ok(Items::from_vec(keys))
+    }
+
     /// The rows that the transaction sees of the touched ids of a namespace, all of them where there are none.
     pub fn scan(
         &self,
@@ -186,10 +205,10 @@ impl Store {
                 Err((id, version)) => Err((ns, id, version)),
             };
         }
-        let mut collection = Collection::new(alloc);
-        if let Err((id, version)) = collection.put(alloc, tag, id, version) {
-            return Err((ns, id, version));
-        }
+        let collection = match Collection::of(alloc, tag, id, version) {
+            Ok(collection) => collection,
+            Err((id, version)) => return Err((ns, id, version)),
+        };
         match self.collections.insert(ns, collection) {
             Ok(_old) => Ok(()),
             Err(failed) => {

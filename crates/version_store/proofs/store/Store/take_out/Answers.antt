@@ -1,6 +1,5 @@
-use Rattle.std.proofs.Common.{◌≡◌, ◌+◌, ℕ, suc, List, drop, get_or, ◌∷◌, refl, ap, sym, subst, ◌∙◌, arith}
+use Rattle.std.proofs.Common.{◌≡◌, ◌+◌, ℕ, suc, List, drop, get_or, ◌∷◌, refl, ap, sym, subst, ◌∙◌, arith, drop_of_length-le}
 use Rattle.std.proofs.Math.Seq.{drop-cons}
-use Rattle.std.proofs.lemmas.List.{drop_of_length-le}
 use Rattle.txn_semantics.specs.Writes.{Place, place_cmp}
 use Rattle.txn_semantics.proofs.Places.{place_total, place_exact}
 use Rattle.version_store.specs.Versions.{Versions, without}
