@@ -24,8 +24,9 @@ use Rattle.version_store.specs.declared.version.Version.{Version}
 use Rattle.version_store.specs.Versions.{first, holder, seen, unless, other_writer_of, without, restamped}
 use Rattle.version_store.specs.Chains.{IsChain, IsHistory, Each, IsCollection, versions_at, changed_at, with_versions}
 use Rattle.version_store.specs.Collections.{Documents, touched_of, found_of, held_of, rows_of, look}
+use Rattle.version_store.specs.TakenBack.{put_back}
 use Rattle.version_store.specs.Refusals.{IsHeld}
-use Rattle.version_store.proofs.Histories.{Line, each_put, each_found, each_changed, put_history, kept_all, removed, rises_changed, rises_filter, left_histories, stamped_history, chain_without}
+use Rattle.version_store.proofs.Histories.{Line, each_put, each_found, each_changed, put_history, kept_all, removed, rises_changed, rises_filter, left_histories, stamped_history, put_back_history, chain_without}
 use Rattle.version_store.proofs.Keyed as keyed
 
 -- what is left is a collection
@@ -38,6 +39,13 @@ collection_stamped tag stamp id docs h =
     record {
       rises = rises_changed id_cmp (map (restamped tag stamp)) id docs h.rises;
       histories = each_changed id_cmp IsHistory IsHistory (map (restamped tag stamp)) id docs (stamped_history tag stamp) (λ line i. i) h.histories;
+    }
+
+pub collection_put_back : (tag : Tag) (version : Version) (id : Id) (docs : Documents) → IsCollection docs → IsCollection (changed_at id_cmp (put_back tag version) id docs)
+collection_put_back tag version id docs h =
+    record {
+      rises = rises_changed id_cmp (put_back tag version) id docs h.rises;
+      histories = each_changed id_cmp IsHistory IsHistory (put_back tag version) id docs (put_back_history tag version) (λ line i. i) h.histories;
     }
 
 pub collection_taken : (tag : Tag) (id : Id) (docs : Documents) → IsCollection docs → IsCollection (with_versions (changed_at id_cmp (without tag) id docs))

@@ -15,6 +15,7 @@ use Rattle.version_store.specs.declared.version.Stamp.{Stamp}
 use Rattle.version_store.specs.declared.version.Version.{Version}
 use Rattle.version_store.specs.Versions.{first, is_some_and, writer_of, is_of, other_writer_of, without, restamped}
 use Rattle.version_store.specs.Chains.{AreCommitted, IsChain, IsHistory, Each, changed_at, changed_under, with_versions}
+use Rattle.version_store.specs.TakenBack.{put_back}
 use Rattle.version_store.proofs.Chained.{lost_version, kept_version, without_committed, restamped_committed, chain_behind}
 use Rattle.version_store.proofs.Keyed as keyed
 
@@ -25,6 +26,14 @@ Line = List Version
 pub stamped_history : (tag : Tag) (stamp : Stamp) (line : Line) → IsHistory line → IsHistory (map (restamped tag stamp) line)
 stamped_history tag stamp [] h = h
 stamped_history tag stamp (version ∷ line) h = (refl, subst AreCommitted (sym (restamped_committed tag stamp line h.1)) h.1)
+
+put_back_case : (tag : Tag) (version older : Version) (line : Line) (b : Bool) → is_of tag older ≡ b → IsHistory (older ∷ line) → IsHistory (cond b (version ∷ without tag (older ∷ line)) (older ∷ line))
+put_back_case tag version older line true is h = (refl, subst AreCommitted (sym (lost_version tag older line is ∙ without_committed tag line h.1)) h.1)
+put_back_case tag version older line false is h = h
+
+pub put_back_history : (tag : Tag) (version : Version) (line : Line) → IsHistory line → IsHistory (put_back tag version line)
+put_back_history tag version [] h = h
+put_back_history tag version (older ∷ line) h = put_back_case tag version older line (is_of tag older) refl h
 
 chain_case : (tag : Tag) (version : Version) (line : Line) (b : Bool) → is_of tag version ≡ b → AreCommitted line → IsChain (without tag (version ∷ line))
 chain_case tag version line true is h = subst IsChain (sym (lost_version tag version line is ∙ without_committed tag line h)) (chain_behind line h)
@@ -44,7 +53,7 @@ free_case tag version line true is free h = subst AreCommitted (sym (lost_versio
 free_case tag version line false is free h =
     subst AreCommitted (sym (kept_version tag version line is)) (no_writer tag (writer_of version.stamp) (filter_map (other_writer_of tag) line) is free, subst AreCommitted (sym (without_committed tag line h)) h)
 
-free_rest : (tag : Tag) (line : Line) → first (filter_map (other_writer_of tag) line) ≡ None → IsChain line → AreCommitted (without tag line)
+pub free_rest : (tag : Tag) (line : Line) → first (filter_map (other_writer_of tag) line) ≡ None → IsChain line → AreCommitted (without tag line)
 free_rest tag [] free h = tt
 free_rest tag (version ∷ line) free h = free_case tag version line (is_of tag version) refl free h
 

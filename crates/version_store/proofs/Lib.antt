@@ -5,3 +5,5 @@ pub mod Histories
 pub mod Documents
 pub mod Groups
 pub mod Whole
+pub mod TakenBack
+pub mod Written

@@ -4,6 +4,7 @@ ghost use Rattle.std.specs.Option.{option_copied};
 ghost use Rattle.txn_types.specs.Order.{same_tag};
 ghost use Rattle.version_store.specs.Versions.{first, without, restamped, holder_of, holder, is_of, is_committed_by, seen, other_writer_of, newest_of, against, writer_of, commit_of};
 ghost use Rattle.version_store.specs.Chains.{begins};
+ghost use Rattle.version_store.specs.TakenBack.{put_back};
 ghost use Rattle.version_store.specs.declared.version.Version.{Version};
 
 use crate::version::{Stamp, Version};
@@ -250,6 +251,15 @@ impl Chain {
         match self.versions.insert(0, version) {
             Ok(()) => Ok(()),
             Err(failed) => Err(failed.value),
+        }
+    }
+
+    /// Puts a version in place of the transaction's own one, where it has one.
+    pub fn put_back(&mut self, tag: &Tag, version: Version)
+        ensures { self.new ≡ put_back tag.now version self.old }
+    {
+        if begins(tag, self.versions.as_slice()) {
+            self.versions[0] = version;
         }
     }
 

@@ -5,6 +5,7 @@
 mod chain;
 mod collection;
 mod key;
+mod laid;
 mod refusal;
 mod store;
 mod version;

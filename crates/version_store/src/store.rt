@@ -1,22 +1,26 @@
 ghost use Rattle.std.specs.Prelude.{
-    ◌≡◌, [], ◌∷◌, Ok, Err, Some, None, IfOk, IfErr, OnOk, OnErr, map,
+    ◌≡◌, [], ◌∷◌, ◌++◌, find, Ok, Err, Some, None, IfOk, IfErr, OnOk, OnErr, map,
 };
 ghost use Rattle.std.specs.List.{filter_map};
 ghost use Rattle.std.specs.Option.{option_copied};
 ghost use Rattle.txn_semantics.specs.Keyed.{put};
 ghost use Rattle.txn_semantics.specs.Writes.{place_of, place_cmp};
 ghost use Rattle.version_store.specs.Versions.{
-    first, other_writer_of, versions_of, without, restamped, read, scan, newest, against, with_write,
+    first, other_writer_of, versions_of, without, restamped, read, scan, newest, against, with_write, with_writes, is_of,
     content_of, prepared, decided, dropped, keys_of,
 };
 ghost use Rattle.version_store.specs.Chains.{
     write_of, IsKept, changed_at, changed_under, with_versions,
 };
+ghost use Rattle.version_store.specs.TakenBack.{
+    AreFree, put_back, laid_by, taken_back, all_taken_back,
+};
 ghost use Rattle.version_store.specs.Refusals.{IsRefused, IsHeld};
 
-use crate::chain::{against, holder, newest_of, seen};
+use crate::chain::{against, holder, newest_of, own, seen};
 use crate::collection::Collection;
 use crate::key::{Key, Keys};
+use crate::laid::Laid;
 use crate::refusal::{PutErr, ScanErr};
 use crate::version::{Stamp, Version};
 use bson_core::Doc;
@@ -216,6 +220,96 @@ impl Store {
                 let (id, version) = collection.into_only().unwrap();
                 Err((ns, id, version))
             }
+        }
+    }
+
+    /// Puts copies of all writes of the transaction, or none: where there is no memory, nothing has changed.
+    pub fn put_all(&mut self, tag: Tag, writes: &[Write]) -> Result<(), AllocError>
+        requires { AreFree tag self.old writes.now }
+        ensures ok { OnOk result (self.new ≡ with_writes tag self.old writes.now) }
+        ensures err { OnErr result (self.new ≡ self.old) }
+    {
+        let mut laid = Vec::new(self.alloc);
+        for write in writes {
+            match self.lay_copy(&tag, write, &mut laid) {
+                Ok(()) => {}
+                Err(e) => {
+                    self.take_all_back(&tag, laid);
+                    return Err(e);
+                }
+            }
+        }
+        Ok(())
+    }
+
+    /// Puts a copy of a write of the transaction where no other one has a version, and adds what it replaced.
+    fn lay_copy(
+        &mut self,
+        tag: &Tag,
+        write: &Write,
+        laid: &mut Vec<Laid>,
+    ) -> Result<(), AllocError>
+        requires { first (filter_map (other_writer_of tag.now) (versions_of self.old (place_of write.now))) ≡ None }
+        ensures ok { OnOk result (self.new ≡ with_write tag.now self.old write.now) }
+        ensures laid { OnOk result (laid.new.items ≡ laid.old.items ++ laid_by tag.now self.old write.now ∷ []) }
+        ensures err { OnErr result (self.new ≡ self.old) }
+        ensures left { OnErr result (laid.new.items ≡ laid.old.items) }
+    {
+        let (ns, id, doc) = split(write.copy(self.alloc)?);
+        let key = Key::new(ns.copy(self.alloc)?, id.copy(self.alloc)?);
+        let replaced = self.own_copy(tag, &ns, &id)?;
+        let version = Version {
+            stamp: Stamp::Unfinished(*tag),
+            doc,
+        };
+        let before = laid.len();
+        laid.push(Laid { key, replaced })?;
+        match self.lay(tag, ns, id, version) {
+            Ok(()) => Ok(()),
+            Err(_) => {
+                laid.truncate(before);
+                Err(AllocError)
+            }
+        }
+    }
+
+    /// A copy of the transaction's own version of a document.
+    fn own_copy(&self, tag: &Tag, ns: &Ns, id: &Id) -> Result<Option<Version>, AllocError>
+        ensures { IfOk result (λ v. v ≡ find (is_of tag.now) (versions_of self.now (ns.now, id.now))) }
+    {
+        match own(tag, self.versions(ns, id)) {
+            Some(version) => Ok(Some(version.copy(self.alloc)?)),
+            None => Ok(None),
+        }
+    }
+
+    /// Takes back all writes that were put, the last one first.
+    fn take_all_back(&mut self, tag: &Tag, laid: Vec<Laid>)
+        ensures { self.new ≡ all_taken_back tag.now laid.items self.old }
+    {
+        let mut left = laid;
+        while let Some(last) = left.pop() {
+            self.take_back(tag, last);
+        }
+    }
+
+    /// Takes back a write that was put.
+    fn take_back(&mut self, tag: &Tag, laid: Laid)
+        ensures { self.new ≡ taken_back tag.now laid self.old }
+    {
+        let Laid { key, replaced } = laid;
+        match replaced {
+            Some(version) => self.put_back_at(tag, &key, version),
+            None => self.take_out_at(tag, &key),
+        }
+    }
+
+    /// Puts a version in place of the transaction's own one under a key, where it has one.
+    fn put_back_at(&mut self, tag: &Tag, key: &Key, version: Version)
+        ensures { self.new ≡ changed_at place_cmp (put_back tag.now version) key.now self.old }
+    {
+        if let Some(collection) = self.collections.get_mut(key.ns()) {
+            collection.put_back(tag, key.id(), version);
         }
     }
 
