@@ -1,10 +1,9 @@
 -- The documents of one namespace: what a call leaves of them, and what a scan finds.
-use Rattle.std.proofs.Common.{◌≡◌, ◌||◌, ℕ, Bool, true, false, cond, List, [], ◌∷◌, ◌++◌, Option, Some, None, is_some, Result, Ok, Err, OnOk, OnErr, option_map, unwrap_or, map, filter, append_assoc, refl, ap, sym, subst, ◌∙◌}
+use Rattle.std.proofs.Common.{◌≡◌, ◌||◌, ℕ, Bool, true, false, cond, List, [], ◌∷◌, ◌++◌, Option, Some, None, is_some, Result, Ok, Err, OnOk, OnErr, option_map, unwrap_or, map, filter, refl, ap, sym, subst, ◌∙◌}
 use Rattle.std.specs.Map.{lookup, set_value, remove_entry}
 use Rattle.std.specs.BTreeMap.{is_at, insert_entry}
 use Rattle.std.specs.List.{AllByRecursion, filter_map, cons_option, list_any}
 use Rattle.std.specs.List.Sorted.{IsStrictlySortedBy}
-use Rattle.std.proofs.lemmas.List.{append-nil}
 use Rattle.std.specs.Ordering.{is_eq, ordering_reverse}
 use Rattle.std.specs.declared.cmp.Ordering.{Ordering}
 use Rattle.std.specs.declared.cmp.Ordering.TheVariants.{Less, Equal, Greater}
@@ -16,16 +15,12 @@ use Rattle.txn_semantics.specs.Keyed.{put, AllAbove, Rises}
 use Rattle.txn_semantics.specs.Rows.{Row}
 use Rattle.txn_semantics.specs.Touched.{Touched}
 use Rattle.txn_semantics.proofs.Laying as laying
-use Rattle.version_store.specs.declared.refusal.ScanErr.{ScanErr}
-use Rattle.version_store.specs.declared.refusal.ScanErr.TheVariants as scanning
-use Rattle.version_store.specs.declared.version.Held.{Held}
 use Rattle.version_store.specs.declared.version.Stamp.{Stamp}
 use Rattle.version_store.specs.declared.version.Version.{Version}
-use Rattle.version_store.specs.Versions.{first, holder, seen, unless, other_writer_of, without, restamped}
+use Rattle.version_store.specs.Versions.{first, other_writer_of, without, restamped}
 use Rattle.version_store.specs.Chains.{IsChain, IsHistory, Each, IsCollection, versions_at, changed_at, with_versions}
-use Rattle.version_store.specs.Collections.{Documents, touched_of, found_of, held_of, rows_of, look}
+use Rattle.version_store.specs.Collections.{Documents, touched_of, found_of, held_of, rows_of}
 use Rattle.version_store.specs.TakenBack.{put_back}
-use Rattle.version_store.specs.Refusals.{IsHeld}
 use Rattle.version_store.proofs.Histories.{Line, each_put, each_found, each_changed, put_history, kept_all, removed, rises_changed, rises_filter, left_histories, stamped_history, put_back_history, chain_without}
 use Rattle.version_store.proofs.Keyed as keyed
 
@@ -91,7 +86,7 @@ pub kept_there : {T E : Type 0} (tag : Tag) (id : Id) (version : Version) (line 
     → lookup (is_at (id_cmp id)) docs ≡ Some line → first (filter_map (other_writer_of tag) (versions_at id_cmp id store)) ≡ None → IsCollection docs → IsCollection (set_value (is_at (id_cmp id)) docs new)
 kept_there tag id version line new docs store (Ok t) e ok err there free h =
     let clear : first (filter_map (other_writer_of tag) line) ≡ None =
-      ap (λ (l : Line). first (filter_map (other_writer_of tag) l)) (sym (line_at id line docs there) ∙ ap (versions_at id_cmp id) e) ∙ free in
+    ap (λ (l : Line). first (filter_map (other_writer_of tag) l)) (sym (line_at id line docs there) ∙ ap (versions_at id_cmp id) e) ∙ free in
     let history : IsHistory new = subst IsHistory (sym ok) (put_history tag version line clear (each_found id_cmp IsHistory id line docs there h.histories).1) in
     subst IsCollection (sym (keyed.written id_cmp id_total id_exact id new line docs h.rises there)) (collection_put id new docs history h)
 kept_there tag id version line new docs store (Err f) e ok err there free h = subst IsCollection (sym (left_there id line new docs docs refl there err)) h
@@ -225,43 +220,7 @@ sorted_on id key item now old left all is new so_far =
     ∙ ap (λ (b : Bool). old || (b || left)) (either_way key id (id_cmp key id) refl ∙ ap (same_id id) is)
     ∙ so_far
 
--- a scan goes on past a document that isn't held
+-- what a scan has found so far, and where it goes on: none of what it passed is held
 pub record IsScanned (at : ℕ) (tag : Tag) (rows : List Row) (left docs : Documents) : Type 0 where
   pub held : first (held_of at tag left) ≡ first (held_of at tag docs)
   pub rows_so_far : rows ++ rows_of at tag left ≡ rows_of at tag docs
-
-pub scan_begun : (at : ℕ) (tag : Tag) (docs : Documents) → IsScanned at tag [] docs docs
-scan_begun at tag docs = record { held = refl; rows_so_far = refl }
-
-free_case : (at : ℕ) (tag : Tag) (row : Id × Line) (left : Documents) → holder at tag row.1 ≡ None → held_of at tag (row ∷ left) ≡ held_of at tag left
-free_case at tag row left free =
-    ap (λ (o : Option (Tag × ℕ)). cons_option (option_map (λ h. let held : Held = record { id = row.0; tag = h.0; ts = h.1 } in held) o) (held_of at tag left)) free
-
-cons_split : {A : Type 0} (o : Option A) (xs : List A) → cons_option o xs ≡ cons_option o [] ++ xs
-cons_split None xs = refl
-cons_split (Some x) xs = refl
-
-pub scan_on : (at : ℕ) (tag : Tag) (old new : List Row) (row : Id × Line) (left docs : Documents) → holder at tag row.1 ≡ None → new ≡ old ++ rows_of at tag (row ∷ []) → IsScanned at tag old (row ∷ left) docs → IsScanned at tag new left docs
-scan_on at tag old new row left docs free is h =
-    record {
-      held = ap first (sym (free_case at tag row left free)) ∙ h.held;
-      rows_so_far =
-        ap (λ (xs : List Row). xs ++ rows_of at tag left) is
-        ∙ append_assoc old (rows_of at tag (row ∷ [])) (rows_of at tag left)
-        ∙ ap (λ (xs : List Row). old ++ xs) (sym (cons_split (option_map (λ doc. (row.0, doc)) (seen at tag row.1)) (rows_of at tag left)))
-        ∙ h.rows_so_far;
-    }
-
--- it ends with all rows, or at the first that is held
-pub scan_done : (at : ℕ) (tag : Tag) (rows : List Row) (docs : Documents) → IsScanned at tag rows [] docs → look at tag docs ≡ Ok rows
-scan_done at tag rows docs h =
-    ap (λ (o : Option Held). unless o (rows_of at tag docs)) (sym h.held) ∙ ap Ok (sym (sym (append-nil rows) ∙ h.rows_so_far))
-
-held_case : (at : ℕ) (tag : Tag) (row : Id × Line) (left docs : Documents) (held : Held) (o : Option Held) → first (cons_option o (held_of at tag left)) ≡ first (held_of at tag docs)
-    → unless (first (cons_option o [])) (rows_of at tag (row ∷ [])) ≡ Err held → look at tag docs ≡ Err held
-held_case at tag row left docs held None is h = cc
-held_case at tag row left docs held (Some first_held) is h = ap (λ (p : Option Held). unless p (rows_of at tag docs)) (sym is) ∙ h
-
-pub scan_held : (at : ℕ) (tag : Tag) (rows : List Row) (row : Id × Line) (left docs : Documents) (e : ScanErr) → IsScanned at tag rows (row ∷ left) docs → IsHeld (look at tag (row ∷ [])) e → IsHeld (look at tag docs) e
-scan_held at tag rows row left docs (scanning.Held held) s h = held_case at tag row left docs held _ s.held h
-scan_held at tag rows row left docs scanning.Memory s h = tt

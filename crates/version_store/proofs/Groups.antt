@@ -1,5 +1,5 @@
 -- A store as the documents of its namespaces: what a call does to the documents of one namespace, it does to the store.
-use Rattle.std.proofs.Common.{◌≡◌, ◌&&◌, ℕ, Bool, true, false, cond, List, [], ◌∷◌, ◌++◌, Option, Some, None, option_map, unwrap_or, Result, Ok, Err, OnOk, OnErr, map, filter, is_some, refl, ap, sym, subst, ◌∙◌}
+use Rattle.std.proofs.Common.{◌≡◌, ◌&&◌, ℕ, Bool, true, false, cond, List, [], ◌∷◌, ◌++◌, Option, Some, None, option_map, unwrap_or, Result, Ok, Err, OnOk, OnErr, filter, is_some, refl, ap, sym, subst, ◌∙◌}
 use Rattle.std.specs.Map.{lookup, set_value}
 use Rattle.std.specs.BTreeMap.{is_at, insert_entry}
 use Rattle.std.specs.Cmp.Lexicographic.{slice_cmp}
@@ -20,7 +20,6 @@ use Rattle.txn_semantics.specs.Keyed.{put, AllAbove, Rises}
 use Rattle.txn_semantics.specs.Rows.{Row}
 use Rattle.txn_semantics.specs.Touched.{Touched, touches}
 use Rattle.txn_semantics.specs.Writes.{Place, place_cmp}
-use Rattle.txn_semantics.proofs.Places.{place_total, place_exact}
 use Rattle.version_store.specs.declared.version.Held.{Held}
 use Rattle.version_store.specs.declared.version.Version.{Version}
 use Rattle.version_store.specs.Versions.{Versions, first, other_writer_of, versions_of, without, touched_keys, held_among, rows_among, scan, holder, seen, unless}

@@ -1,6 +1,6 @@
 -- Lists by keys in two parts, flattened: what is found, put and changed under both parts is found, put and changed under
 -- the second part in what stands under the first.
-use Rattle.std.proofs.Common.{◌≡◌, Bool, true, false, cond, List, [], ◌∷◌, ◌++◌, Option, Some, None, unwrap_or, map, refl, ap, sym, subst, ◌∙◌}
+use Rattle.std.proofs.Common.{◌≡◌, Bool, true, false, cond, List, [], ◌∷◌, ◌++◌, Option, Some, None, unwrap_or, refl, ap, sym, ◌∙◌}
 use Rattle.std.specs.Map.{lookup}
 use Rattle.std.specs.BTreeMap.{is_at}
 use Rattle.std.specs.Cmp.{IsTotalOrder}
@@ -79,10 +79,7 @@ module _ {A B V : Type 0} (first : A → A → Ordering) (second : B → B → O
   abbrev pub group_of : A → List (A × List (B × V)) → List (B × V)
   group_of a groups = unwrap_or (lookup (is_at (first a)) groups) []
 
-  pub group_found : (a : A) (rows : List (B × V)) (groups : List (A × List (B × V))) → lookup (is_at (first a)) groups ≡ Some rows → group_of a groups ≡ rows
-  group_found a rows groups h = ap (λ (o : Option (List (B × V))). unwrap_or o []) h
-
-  pub group_absent : (a : A) (groups : List (A × List (B × V))) → lookup (is_at (first a)) groups ≡ None → group_of a groups ≡ []
+  group_absent : (a : A) (groups : List (A × List (B × V))) → lookup (is_at (first a)) groups ≡ None → group_of a groups ≡ []
   group_absent a groups h = ap (λ (o : Option (List (B × V))). unwrap_or o []) h
 
   group_past : (a : A) (group : A × List (B × V)) (groups : List (A × List (B × V))) (o : Ordering) → first a group.0 ≡ o → is_eq o ≡ false → group_of a (group ∷ groups) ≡ group_of a groups

@@ -17,15 +17,15 @@ use Rattle.txn_types.specs.declared.id.Id.{Id}
 use Rattle.txn_types.specs.declared.names.Tag.{Tag}
 use Rattle.txn_types.specs.declared.write.Write.{Write}
 use Rattle.txn_types.proofs.Orders.{tag_total, tag_exact}
-use Rattle.txn_semantics.specs.Keyed.{put, AllAbove, Rises}
+use Rattle.txn_semantics.specs.Keyed.{put, Rises}
 use Rattle.txn_semantics.specs.Writes.{Place, place_of, place_cmp}
 use Rattle.txn_semantics.proofs.Laying as laying
 use Rattle.txn_semantics.proofs.Places.{place_total, place_exact}
 use Rattle.version_store.specs.declared.laid.Laid.{Laid}
 use Rattle.version_store.specs.declared.version.Stamp.TheVariants.{Unfinished}
 use Rattle.version_store.specs.declared.version.Version.{Version}
-use Rattle.version_store.specs.Versions.{Versions, first, is_some_and, writer_of, is_of, other_writer_of, versions_of, without, with_write, with_writes, content_of, conflict, against, commit_above, newest_of}
-use Rattle.version_store.specs.Chains.{AreCommitted, IsChain, IsHistory, IsKept, Each, begins, changed_at, with_versions}
+use Rattle.version_store.specs.Versions.{Versions, first, is_of, other_writer_of, versions_of, without, with_write, with_writes, content_of, conflict, against, commit_above, newest_of}
+use Rattle.version_store.specs.Chains.{AreCommitted, IsChain, IsHistory, IsKept, changed_at, with_versions}
 use Rattle.version_store.specs.TakenBack.{AreFree, laid_by, put_back, taken_back_at, taken_back, all_taken_back}
 use Rattle.version_store.proofs.Chained.{lost_version, kept_version, without_committed, not_own}
 use Rattle.version_store.proofs.Histories.{Line, each_found, each_put, put_history, kept_all, free_rest}
@@ -144,8 +144,8 @@ back_over : (tag : Tag) (place : Place) (version older : Version) (rest : Line) 
     → changed_at place_cmp (put_back tag older) place (put place_cmp place (Laying tag version (older ∷ rest)) store) ≡ store
 back_over tag place version older rest store is was kept committed there =
     let put_in : put_back tag older (Laying tag version (older ∷ rest)) ≡ older ∷ rest =
-      ap (λ (b : Bool). cond b (older ∷ without tag (Laying tag version (older ∷ rest))) (Laying tag version (older ∷ rest))) is
-      ∙ ap (λ (l : Line). older ∷ l) (taken tag version (older ∷ rest) is ∙ lost_version tag older rest was ∙ without_committed tag rest committed) in
+    ap (λ (b : Bool). cond b (older ∷ without tag (Laying tag version (older ∷ rest))) (Laying tag version (older ∷ rest))) is
+    ∙ ap (λ (l : Line). older ∷ l) (taken tag version (older ∷ rest) is ∙ lost_version tag older rest was ∙ without_committed tag rest committed) in
     changed_put place_cmp place_total place_exact (put_back tag older) place (Laying tag version (older ∷ rest)) store kept.rises
     ∙ ap (λ (l : Line). put place_cmp place l store) put_in
     ∙ put_same place_cmp place_total place_exact place (older ∷ rest) store kept.rises there
@@ -219,15 +219,15 @@ free_case tag store write other true is kept free more =
     let same : place_of other ≡ place_of write = place_exact (place_of other) (place_of write) (is_equal _ is) in
     let line : Line = version_of tag write ∷ without tag (versions_of store (place_of write)) in
     let found : versions_of (with_write tag store write) (place_of write) ≡ line =
-      versions_by (place_of write) (with_write tag store write) ∙ ap (λ (o : Option Line). unwrap_or o []) (found_put place_cmp place_total place_exact (place_of write) line store) in
+    versions_by (place_of write) (with_write tag store write) ∙ ap (λ (o : Option Line). unwrap_or o []) (found_put place_cmp place_total place_exact (place_of write) line store) in
     subst (Free tag) (sym (ap (versions_of (with_write tag store write)) same ∙ found))
     (own_free tag write (without tag (versions_of store (place_of write))) (free_rest tag (versions_of store (place_of write)) free (chain_of (place_of write) store kept)))
 free_case tag store write other false is kept free more =
     let line : Line = version_of tag write ∷ without tag (versions_of store (place_of write)) in
     let found : versions_of (with_write tag store write) (place_of other) ≡ versions_of store (place_of other) =
-      versions_by (place_of other) (with_write tag store write)
-      ∙ ap (λ (o : Option Line). unwrap_or o []) (found_other place_cmp place_total place_exact (place_of write) (place_of other) line store is)
-      ∙ sym (versions_by (place_of other) store) in
+    versions_by (place_of other) (with_write tag store write)
+    ∙ ap (λ (o : Option Line). unwrap_or o []) (found_other place_cmp place_total place_exact (place_of write) (place_of other) line store is)
+    ∙ sym (versions_by (place_of other) store) in
     subst (Free tag) (sym found) more
 
 free_behind : (tag : Tag) (store : Versions) (write : Write) (writes : List Write) → IsKept store → Free tag (versions_of store (place_of write)) → AreFree tag store writes → AreFree tag (with_write tag store write) writes
@@ -258,9 +258,9 @@ pub laying_on : (tag : Tag) (old new : Versions) (laid after : List Laid) (last 
     → last ≡ laid_by tag old write → IsLaying tag old laid (write ∷ left) begun writes → IsLaying tag new after left begun writes
 laying_on tag old new laid after last write left begun writes is more one h =
     let again : taken_back tag last new ≡ old =
-      ap (λ (s : Versions). taken_back tag last s) is
-      ∙ ap (λ (l : Laid). taken_back tag l (with_write tag old write)) one
-      ∙ back_again tag (place_of write) (version_of tag write) old (own tag) h.kept in
+    ap (λ (s : Versions). taken_back tag last s) is
+    ∙ ap (λ (l : Laid). taken_back tag l (with_write tag old write)) one
+    ∙ back_again tag (place_of write) (version_of tag write) old (own tag) h.kept in
     record {
       forth = ap (λ (s : Versions). with_writes tag s left) is ∙ h.forth;
       back = ap (λ (l : List Laid). all_taken_back tag l new) more ∙ back_last tag laid last new ∙ ap (all_taken_back tag laid) again ∙ h.back;
@@ -290,6 +290,7 @@ pub free_without_conflict : (tag : Tag) (at : ℕ) (store : Versions) (writes : 
 free_without_conflict tag at store [] h = tt
 free_without_conflict tag at store (write ∷ writes) h =
     let line : Line = versions_of store (place_of write) in
-    let rest : List (Id × By) = filter_map (λ other. option_map (λ why. ((place_of other).1, why)) (against at tag (versions_of store (place_of other)))) writes in
-    (nobody (first (filter_map (other_writer_of tag) line)) (option_and_then (commit_above at) (newest_of line)) (nothing_here (λ why. ((place_of write).1, why)) (against at tag line) rest h),
-      free_without_conflict tag at store writes (nothing_left (λ why. ((place_of write).1, why)) (against at tag line) rest h))
+    let rest : List (Id × By) = filter_map (λ other. option_map (λ why. ((place_of other).1, why)) (against at tag (versions_of store (place_of other)))) writes in (
+      nobody (first (filter_map (other_writer_of tag) line)) (option_and_then (commit_above at) (newest_of line)) (nothing_here (λ why. ((place_of write).1, why)) (against at tag line) rest h),
+      free_without_conflict tag at store writes (nothing_left (λ why. ((place_of write).1, why)) (against at tag line) rest h),
+    )

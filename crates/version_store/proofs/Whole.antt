@@ -1,5 +1,5 @@
 -- A change of the versions of one transaction: under its keys, and so in the whole store.
-use Rattle.std.proofs.Common.{◌≡◌, Bool, true, false, cond, List, [], ◌∷◌, Option, Some, None, map, filter, find, refl, ap, sym, ◌∙◌}
+use Rattle.std.proofs.Common.{◌≡◌, Bool, true, false, cond, List, [], ◌∷◌, Option, Some, None, map, find, refl, ap, sym, ◌∙◌}
 use Rattle.std.specs.declared.cmp.Ordering.TheVariants.{Less, Equal}
 use Rattle.txn_types.specs.declared.names.Tag.{Tag}
 use Rattle.txn_semantics.specs.Keyed.{AllAbove, Rises}

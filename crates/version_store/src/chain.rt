@@ -61,7 +61,8 @@ fn is_committed_by(at: Ts, version: &Version) -> bool
     }
 }
 
-/// Another transaction that prepared the version, and its prepare timestamp, where that is at or below the moment.
+/// Another transaction that prepared the version, and its prepare timestamp, where that is at or
+/// below the moment.
 fn holder_of(at: Ts, tag: &Tag, stamp: &Stamp) -> Option<(Tag, Ts)>
     ensures { result ≡ holder_of at tag.now stamp.now }
 {

@@ -1,5 +1,5 @@
-//! Versions of documents: of each document what was committed, newest first, and what a transaction that isn't finished
-//! has written.
+//! Versions of documents: of each document what was committed, newest first, and what a transaction
+//! that isn't finished has written.
 #![tactic(auto)]
 
 mod chain;

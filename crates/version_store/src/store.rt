@@ -1,19 +1,55 @@
 ghost use Rattle.std.specs.Prelude.{
-    ◌≡◌, [], ◌∷◌, ◌++◌, find, Ok, Err, Some, None, IfOk, IfErr, OnOk, OnErr, map,
+  ◌≡◌,
+  [],
+  ◌∷◌,
+  ◌++◌,
+  find,
+  Ok,
+  Err,
+  Some,
+  None,
+  IfOk,
+  IfErr,
+  OnOk,
+  OnErr,
+  map,
 };
 ghost use Rattle.std.specs.List.{filter_map};
 ghost use Rattle.std.specs.Option.{option_copied};
 ghost use Rattle.txn_semantics.specs.Keyed.{put};
 ghost use Rattle.txn_semantics.specs.Writes.{place_of, place_cmp};
 ghost use Rattle.version_store.specs.Versions.{
-    first, other_writer_of, versions_of, without, restamped, read, scan, newest, against, with_write, with_writes, is_of,
-    content_of, prepared, decided, dropped, keys_of,
+  first,
+  other_writer_of,
+  versions_of,
+  without,
+  restamped,
+  read,
+  scan,
+  newest,
+  against,
+  with_write,
+  with_writes,
+  is_of,
+  content_of,
+  prepared,
+  decided,
+  dropped,
+  keys_of,
 };
 ghost use Rattle.version_store.specs.Chains.{
-    write_of, IsKept, changed_at, changed_under, with_versions,
+  write_of,
+  IsKept,
+  changed_at,
+  changed_under,
+  with_versions,
 };
 ghost use Rattle.version_store.specs.TakenBack.{
-    AreFree, put_back, laid_by, taken_back, all_taken_back,
+  AreFree,
+  put_back,
+  laid_by,
+  taken_back,
+  all_taken_back,
 };
 ghost use Rattle.version_store.specs.Refusals.{IsRefused, IsHeld};
 
@@ -30,8 +66,8 @@ use std::collections::BTreeMap;
 use std::marker::Model;
 use txn_types::{By, Id, Ns, Tag, Ts, Write};
 
-/// The versions of all documents. Contracts see them by key: the keys rise, each has a version, and all versions of a
-/// key but the first are committed.
+/// The versions of all documents. Contracts see them by key: the keys rise, each has a version, and
+/// all versions of a key but the first are committed.
 #[derive(Drop)]
 pub struct Store {
     alloc: Global,
@@ -104,13 +140,7 @@ impl Store {
     }
 
     /// The document that the transaction sees there, or who holds it. It takes no memory.
-    pub fn read(
-        &self,
-        ns: &Ns,
-        id: &Id,
-        at: Ts,
-        tag: Tag,
-    ) -> Result<Option<&Doc>, (Tag, Ts)>
+    pub fn read(&self, ns: &Ns, id: &Id, at: Ts, tag: Tag) -> Result<Option<&Doc>, (Tag, Ts)>
         ensures ok { IfOk result (λ doc. read self.now (ns.now, id.now) at tag ≡ Ok (option_copied doc)) }
         ensures held { IfErr result (λ h. read self.now (ns.now, id.now) at tag ≡ Err h) }
     {
@@ -146,7 +176,8 @@ impl Store {
         Ok(Items::from_vec(keys))
     }
 
-    /// The rows that the transaction sees of the touched ids of a namespace, all of them where there are none.
+    /// The rows that the transaction sees of the touched ids of a namespace, all of them where
+    /// there are none.
     pub fn scan(
         &self,
         ns: &Ns,
@@ -190,13 +221,7 @@ impl Store {
     }
 
     /// Puts a version of the transaction where no other one has a version.
-    fn lay(
-        &mut self,
-        tag: &Tag,
-        ns: Ns,
-        id: Id,
-        version: Version,
-    ) -> Result<(), (Ns, Id, Version)>
+    fn lay(&mut self, tag: &Tag, ns: Ns, id: Id, version: Version) -> Result<(), (Ns, Id, Version)>
         requires { first (filter_map (other_writer_of tag.now) (versions_of self.old (ns, id))) ≡ None }
         ensures ok { OnOk result (self.new ≡ put place_cmp (ns, id) (version ∷ without tag.now (versions_of self.old (ns, id))) self.old) }
         ensures back { IfErr result (λ e. e ≡ (ns, id, version)) }
@@ -223,7 +248,8 @@ impl Store {
         }
     }
 
-    /// Puts copies of all writes of the transaction, or none: where there is no memory, nothing has changed.
+    /// Puts copies of all writes of the transaction, or none: where there is no memory, nothing has
+    /// changed.
     pub fn put_all(&mut self, tag: Tag, writes: &[Write]) -> Result<(), AllocError>
         requires { AreFree tag self.old writes.now }
         ensures ok { OnOk result (self.new ≡ with_writes tag self.old writes.now) }
@@ -242,13 +268,9 @@ impl Store {
         Ok(())
     }
 
-    /// Puts a copy of a write of the transaction where no other one has a version, and adds what it replaced.
-    fn lay_copy(
-        &mut self,
-        tag: &Tag,
-        write: &Write,
-        laid: &mut Vec<Laid>,
-    ) -> Result<(), AllocError>
+    /// Puts a copy of a write of the transaction where no other one has a version, and adds what it
+    /// replaced.
+    fn lay_copy(&mut self, tag: &Tag, write: &Write, laid: &mut Vec<Laid>) -> Result<(), AllocError>
         requires { first (filter_map (other_writer_of tag.now) (versions_of self.old (place_of write.now))) ≡ None }
         ensures ok { OnOk result (self.new ≡ with_write tag.now self.old write.now) }
         ensures laid { OnOk result (laid.new.items ≡ laid.old.items ++ laid_by tag.now self.old write.now ∷ []) }
@@ -342,7 +364,8 @@ impl Store {
         }
     }
 
-    /// Ends the transaction: its versions become commits at this time, or are taken out. It takes no memory.
+    /// Ends the transaction: its versions become commits at this time, or are taken out. It takes
+    /// no memory.
     pub fn decide(&mut self, tag: Tag, keys: &[Key], at: Option<Ts>)
         requires { keys.now ≡ keys_of tag self.old }
         ensures { self.new ≡ decided tag at self.old }

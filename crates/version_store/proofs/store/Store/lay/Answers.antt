@@ -24,8 +24,8 @@ pub returns-in-Some-clause-ok : goal.returns-in-Some-clause-ok
 returns-in-Some-clause-ok c =
     let new = c.put.new.self in
     let there =
-      set_laid c.args.tag.now c.args.ns c.args.id c.args.version c.in-Some.collection.now new c.self.inside.collections.entries (c.get_mut.follows.lender new).entries c.args.self.now c.put.result c.self.view_is c.self.invariant.rises
-      (sym c.in-Some.ensures.value) (c.get_mut.follows.holds new).0 c.put.ensures.ok in
+    set_laid c.args.tag.now c.args.ns c.args.id c.args.version c.in-Some.collection.now new c.self.inside.collections.entries (c.get_mut.follows.lender new).entries c.args.self.now c.put.result c.self.view_is c.self.invariant.rises
+    (sym c.in-Some.ensures.value) (c.get_mut.follows.holds new).0 c.put.ensures.ok in
     search (there, rules)
 
 pub returns-in-Some-clause-err : goal.returns-in-Some-clause-err
@@ -42,14 +42,14 @@ invariant_of-self c =
     let docs = c.in-Some.collection.now in
     let new = c.put.new.self in
     let free : first (filter_map (other_writer_of tag) (versions_at id_cmp c.args.id docs)) ≡ None =
-      ap (λ (line : List Version). first (filter_map (other_writer_of tag) line))
-      (versions_in ns c.args.id docs groups c.args.self.now c.self.view_is c.self.invariant.rises (group_found ns docs groups (sym c.in-Some.ensures.value)))
-      ∙ c.requires in
+    ap (λ (line : List Version). first (filter_map (other_writer_of tag) line))
+    (versions_in ns c.args.id docs groups c.args.self.now c.self.view_is c.self.invariant.rises (group_found ns docs groups (sym c.in-Some.ensures.value)))
+    ∙ c.requires in
     record {
       rises = rises_of ns_cmp (c.get_mut.follows.lender new).entries (c.get_mut.follows.holds new).4;
       collections =
-        subst (Each IsCollection) (sym (c.get_mut.follows.holds new).0)
-        (kept_there tag ns c.args.id c.args.version docs new groups c.put.result c.put.ensures.ok c.put.ensures.err (sym c.in-Some.ensures.value) free c.self.invariant.collections);
+          subst (Each IsCollection) (sym (c.get_mut.follows.holds new).0)
+          (kept_there tag ns c.args.id c.args.version docs new groups c.put.result c.put.ensures.ok c.put.ensures.err (sym c.in-Some.ensures.value) free c.self.invariant.collections);
     }
 
 pub invariant_of-self-2 : goal.invariant_of-self-2
@@ -58,14 +58,14 @@ invariant_of-self-2 c =
     record {
       rises = rises_of ns_cmp c.insert.new.self.entries c.insert.ensures.ordered;
       collections =
-        kept_new c.args.ns c.args.id c.args.version c.in-Ok-of.collection c.get_mut.follows.lender-at-none.entries c.self.inside.collections.entries c.insert.new.self.entries c.insert.result same c.in-Ok-of.ensures.ok
-        c.insert.ensures.entries c.insert.ensures.err c.self.invariant.collections;
+          kept_new c.args.ns c.args.id c.args.version c.in-Ok-of.collection c.get_mut.follows.lender-at-none.entries c.self.inside.collections.entries c.insert.new.self.entries c.insert.result same c.in-Ok-of.ensures.ok
+          c.insert.ensures.entries c.insert.ensures.err c.self.invariant.collections;
     }
 
 pub returns-clause-ok : goal.returns-clause-ok
 returns-clause-ok c =
     let same = ap (λ (m : BTreeMap (List ℕ) Documents). m.entries) c.get_mut.follows.holds-at-none in
     let new =
-      insert_laid c.args.tag.now c.args.ns c.args.id c.args.version c.in-Ok-of.collection c.get_mut.follows.lender-at-none.entries c.self.inside.collections.entries c.insert.new.self.entries c.args.self.now c.insert.result same
-      c.self.view_is c.self.invariant.rises (sym c.in_default.ensures.value) c.in-Ok-of.ensures.ok c.insert.ensures.entries in
+    insert_laid c.args.tag.now c.args.ns c.args.id c.args.version c.in-Ok-of.collection c.get_mut.follows.lender-at-none.entries c.self.inside.collections.entries c.insert.new.self.entries c.args.self.now c.insert.result same
+    c.self.view_is c.self.invariant.rises (sym c.in_default.ensures.value) c.in-Ok-of.ensures.ok c.insert.ensures.entries in
     search (new, rules)

@@ -17,7 +17,7 @@ loop-write-preserved c =
     let tag = c.args.tag in
     let next : suc at ≡ at + 1 = omega arith in
     let left : drop at writes ≡ item ∷ drop (at + 1) writes =
-      drop-cons writes at item (omega (arith, c.loop-write-test.true)) ∙ ap (λ (w : Write). w ∷ drop (suc at) writes) (sym c.write-item.is) ∙ ap (λ (n : ℕ). item ∷ drop n writes) next in
+    drop-cons writes at item (omega (arith, c.loop-write-test.true)) ∙ ap (λ (w : Write). w ∷ drop (suc at) writes) (sym c.write-item.is) ∙ ap (λ (n : ℕ). item ∷ drop n writes) next in
     laying_on tag c.loop-write.self c.lay_copy.new.self c.loop-write.laid.items c.lay_copy.new.laid.items (laid_by tag c.loop-write.self item) item (drop (at + 1) writes) begun writes c.in-Ok.ensures.ok c.in-Ok.ensures.laid refl
     (subst (λ (ws : List Write). IsLaying tag c.loop-write.self c.loop-write.laid.items ws begun writes) left c.loop-write.invariant)
 

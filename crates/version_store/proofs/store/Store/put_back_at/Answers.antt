@@ -52,10 +52,10 @@ invariant_of-self c =
           let old = w.in-Some.collection.now in
           let is : IsCollection new = subst IsCollection (sym w.put_back.ensures) (collection_put_back c.args.tag.now c.args.version w.id.result.now old (each_found ns_cmp IsCollection ns old groups (sym w.in-Some.ensures.value) all)) in
           let held : AreCollections (c.get_mut.follows.lender new).entries =
-            record {
-              rises = rises_of ns_cmp (c.get_mut.follows.lender new).entries (c.get_mut.follows.holds new).4;
-              collections = subst (Each IsCollection) (sym (c.get_mut.follows.holds new).0) (each_set ns_cmp IsCollection ns new groups is all);
-            } in
+          record {
+            rises = rises_of ns_cmp (c.get_mut.follows.lender new).entries (c.get_mut.follows.holds new).4;
+            collections = subst (Each IsCollection) (sym (c.get_mut.follows.holds new).0) (each_set ns_cmp IsCollection ns new groups is all);
+          } in
           subst the_invariant (sym w.self-inside-is) held
       | in_default+in-None-1 w ↦ subst the_invariant (sym w.self-inside-is) (subst (λ (m : BTreeMap (List ℕ) Documents). AreCollections m.entries) (sym c.get_mut.follows.holds-at-none) c.self.invariant)
       | in_default+in-Some-1 w ↦ subst the_invariant (sym w.self-inside-is) (subst (λ (m : BTreeMap (List ℕ) Documents). AreCollections m.entries) (sym c.get_mut.follows.holds-at-none) c.self.invariant)

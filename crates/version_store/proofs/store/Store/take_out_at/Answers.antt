@@ -1,15 +1,15 @@
-use Rattle.std.proofs.Common.{List, ℕ, map, ap, sym, subst, ◌∙◌}
+use Rattle.std.proofs.Common.{List, ℕ, ap, sym, subst, ◌∙◌}
 use Rattle.std.specs.BTreeMap.{BTreeMap}
 use Rattle.txn_types.specs.Order.{id_cmp}
 use Rattle.txn_types.specs.declared.id.Id.{Id}
 use Rattle.txn_semantics.specs.Writes.{place_cmp}
 use Rattle.version_store.specs.contracts.store.Store.{the_view, the_invariant}
-use Rattle.version_store.specs.Versions.{restamped, without}
+use Rattle.version_store.specs.Versions.{without}
 use Rattle.version_store.specs.Chains.{IsCollection, AreCollections, Each, changed_at, with_versions}
 use Rattle.version_store.specs.Collections.{Documents}
 use Rattle.version_store.specs.Nested.{flattened}
-use Rattle.version_store.proofs.Documents.{collection_stamped, collection_taken}
-use Rattle.version_store.proofs.Groups.{ns_cmp, changed_there, changed_nowhere, taken_there, taken_nowhere}
+use Rattle.version_store.proofs.Documents.{collection_taken}
+use Rattle.version_store.proofs.Groups.{ns_cmp, taken_there, taken_nowhere}
 use Rattle.version_store.proofs.Histories.{each_set, each_found}
 use Rattle.version_store.proofs.Keyed.{rises_of}
 use Rattle.version_store.proofs.store.Store.take_out_at.Goals as goal
@@ -48,10 +48,10 @@ invariant_of-self c =
           let old = w.in-Some.collection.now in
           let is : IsCollection new = subst IsCollection (sym w.take_out.ensures) (collection_taken c.args.tag.now w.id.result.now old (each_found ns_cmp IsCollection ns old groups (sym w.in-Some.ensures.value) all)) in
           let held : AreCollections (c.get_mut.follows.lender new).entries =
-            record {
-              rises = rises_of ns_cmp (c.get_mut.follows.lender new).entries (c.get_mut.follows.holds new).4;
-              collections = subst (Each IsCollection) (sym (c.get_mut.follows.holds new).0) (each_set ns_cmp IsCollection ns new groups is all);
-            } in
+          record {
+            rises = rises_of ns_cmp (c.get_mut.follows.lender new).entries (c.get_mut.follows.holds new).4;
+            collections = subst (Each IsCollection) (sym (c.get_mut.follows.holds new).0) (each_set ns_cmp IsCollection ns new groups is all);
+          } in
           subst the_invariant (sym w.self-inside-is) held
       | in_default w ↦ subst the_invariant (sym w.self-inside-is) (subst (λ (m : BTreeMap (List ℕ) Documents). AreCollections m.entries) (sym c.get_mut.follows.holds-at-none) c.self.invariant)
     ]
