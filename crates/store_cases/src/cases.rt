@@ -3,15 +3,16 @@ use std::alloc::{AllocError, Global};
 
 /// A file of cases that is run: how many there were, the number of the line, and the store.
 ///
-/// A line is a comment, which begins with `#`, or `new`, behind which there is another store, or a question and its
-/// answer, `QUESTION -> ANSWER`. Transactions and times are numbers, a namespace is a collection's name, an id is a number
-/// or a text, a value is a number:
+/// A line is a comment, which begins with `#`, or `new`, behind which there is another store, or a
+/// question and its answer, `QUESTION -> ANSWER`. Transactions and times are numbers, a namespace
+/// is a collection's name, an id is a number or a text, a value is a number:
 ///
-/// - `put T at R NS ID = VALUE -> ok`, or `conflict ID with T`, or `conflict ID committed at TIME`: what a transaction that
-///   reads at R is answered; `delete T at R NS ID` likewise, and `against T at R NS ID -> nothing`, or the same words.
+/// - `put T at R NS ID = VALUE -> ok`, or `conflict ID with T`, or `conflict ID committed at TIME`:
+///   what a transaction that reads at R is answered; `delete T at R NS ID` likewise, and `against T
+///   at R NS ID -> nothing`, or the same words.
 /// - `read T at R NS ID -> VALUE`, or `nothing`, or `held by T since TIME`.
-/// - `scan T at R NS -> ID = VALUE, ID = VALUE ..`, or `nothing`, or `ID held by T since TIME`; `scan T at R NS of ID ID ..`
-///   looks at these ids.
+/// - `scan T at R NS -> ID = VALUE, ID = VALUE ..`, or `nothing`, or `ID held by T since TIME`;
+///   `scan T at R NS of ID ID ..` looks at these ids.
 /// - `newest NS ID -> TIME` or `none`, and `keys T -> NS ID, NS ID ..` or `none`.
 /// - `prepare T at TIME -> ok`, `commit T at TIME -> ok`, `abort T -> ok`, `drop T -> ok`.
 #[derive(Drop)]

@@ -14,6 +14,7 @@ pub struct Standing {
 }
 
 /// The words of a question; an empty one behind the last.
+#[derive(Clone, Copy)]
 struct Asked<'a> {
     words: &'a [&'a str],
 }
@@ -38,10 +39,7 @@ impl<'a> Asked<'a> {
 }
 
 /// What a write is answered.
-fn words_of_put(
-    alloc: Global,
-    answer: &Result<(), (PutErr, Write)>,
-) -> Result<String, AllocError> {
+fn words_of_put(alloc: Global, answer: &Result<(), (PutErr, Write)>) -> Result<String, AllocError> {
     match answer {
         Ok(()) => String::from_str(alloc, "ok"),
         Err((PutErr::Conflict { id, by }, _)) => words_of_conflict(alloc, id, *by),
