@@ -1,0 +1,6 @@
+pub mod Versions
+pub mod Nested
+pub mod Chains
+pub mod Collections
+pub mod TakenBack
+pub mod Refusals
