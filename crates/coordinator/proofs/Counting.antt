@@ -1,16 +1,15 @@
 -- Each vote and each acknowledgement that counts leaves one participant fewer to wait for.
-use Rattle.std.proofs.Common.{◌≡◌, ℕ, ◌+◌, ◌≤◌, ◌<◌, ◌||◌, ◌&&◌, is_none, is_some, Bool, true, false, not, cond, List, [], ◌∷◌, ◌++◌, length, filter, suc, zero, refl, ap, sym, subst, ◌∙◌, arith, eqb, ⊎_elim, length-append}
+use Rattle.std.proofs.Common.{◌≡◌, ℕ, ◌+◌, ◌≤◌, ◌<◌, ◌||◌, ◌&&◌, is_none, is_some, Bool, true, false, not, cond, List, [], ◌∷◌, ◌++◌, length, filter, refl, ap, sym, subst, ◌∙◌, arith, eqb, ⊎_elim, length-append}
 use Rattle.std.specs.List.{list_any}
 use Rattle.std.proofs.lemmas.Bool.{eqb-true, eq-eqb, ne_eqb, cases_eq, and_parts, not-true}
 use Rattle.std.proofs.lemmas.List.Folds.{list_any-append}
-use Rattle.coordinator.specs.declared.plan.Plan.{Plan}
 use Rattle.coordinator.specs.TwoPhase.{Coordinated, takes_part, has_voted, counts, has_acked, ack_counts}
 use Rattle.coordinator.specs.Room.{unheard, unacked, HasRoom}
 
 abbrev Part : Type 0
 Part = ℕ × ℕ
 
-eqb_turned : (a b : ℕ) → eqb a b ≡ eqb b a
+pub eqb_turned : (a b : ℕ) → eqb a b ≡ eqb b a
 eqb_turned a b = ⊎_elim (λ e. eq-eqb a b e ∙ sym (eq-eqb b a (sym e))) (λ n. ne_eqb a b n ∙ sym (ne_eqb b a (λ e. n (sym e)))) (cases_eq a b)
 
 or_none : (b : Bool) → (b || false) ≡ b
@@ -58,7 +57,7 @@ one_vote_fewer shard at c h =
     let here : Part → Bool = λ x. eqb shard x.0 || false in
     let less = fewer old here c.plan.parts (voter_is_there shard c.plan.parts there.1) (vote_is_new shard c.votes (not-true (has_voted shard c) both.1)) in
     let same : length (unheard c.plan.parts (c.votes ++ (shard, at) ∷ [])) ≡ length (filter (λ x. not (old x || here x)) c.plan.parts) =
-        ap (λ (f : Part → Bool). length (filter (λ x. not (f x)) c.plan.parts)) (λ i x. list_any-append (λ (vote : Part). eqb vote.0 x.0) c.votes ((shard, at) ∷ []) i) in
+    ap (λ (f : Part → Bool). length (filter (λ x. not (f x)) c.plan.parts)) (λ i x. list_any-append (λ (vote : Part). eqb vote.0 x.0) c.votes ((shard, at) ∷ []) i) in
     omega (arith, less, same)
 
 -- an acknowledgement that counts
@@ -77,7 +76,7 @@ one_ack_fewer shard c h =
     let here : Part → Bool = λ x. eqb x.0 shard || false in
     let less = fewer old here c.plan.parts (acker_is_there shard c.plan.parts there.1) (ack_is_new shard c.acks (not-true (has_acked shard c) both.1)) in
     let same : length (unacked c.plan.parts (c.acks ++ shard ∷ [])) ≡ length (filter (λ x. not (old x || here x)) c.plan.parts) =
-        ap (λ (f : Part → Bool). length (filter (λ x. not (f x)) c.plan.parts)) (λ i x. list_any-append (eqb x.0) c.acks (shard ∷ []) i) in
+    ap (λ (f : Part → Bool). length (filter (λ x. not (f x)) c.plan.parts)) (λ i x. list_any-append (eqb x.0) c.acks (shard ∷ []) i) in
     omega (arith, less, same)
 
 -- there is room for a vote that counts, and then for those that may still come

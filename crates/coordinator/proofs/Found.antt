@@ -1,10 +1,11 @@
 -- The map of a coordinator as its definition has it.
-use Rattle.std.proofs.Common.{◌≡◌, ℕ, ◌&&◌, Bool, true, false, cond, List, Option, Some, None, refl, ap, sym, ◌∙◌}
+use Rattle.std.proofs.Common.{◌≡◌, ℕ, ◌&&◌, Bool, true, false, cond, Option, Some, None, option_map, IsSomeAnd, refl, ap, sym, subst, ◌∙◌}
 use Rattle.std.specs.Map.{lookup, set_value, remove_entry, keys_of}
 use Rattle.std.specs.BTreeMap.{is_at, insert_entry}
 use Rattle.std.specs.List.Sorted.{IsStrictlySortedBy}
 use Rattle.std.proofs.lemmas.Map.Steps.{set_value_same}
-use Rattle.txn_types.specs.Order.{tag_cmp}
+use Rattle.txn_types.specs.Order.{tag_cmp, same_tag}
+use Rattle.txn_types.specs.declared.decision.Decision.{Decision}
 use Rattle.txn_types.specs.declared.names.Tag.{Tag}
 use Rattle.txn_types.proofs.Orders.{tag_total, tag_exact}
 use Rattle.txn_semantics.specs.Keyed.{taken_out}
@@ -69,3 +70,24 @@ other_case false a gone kept coords h = refl
 
 pub others_keep : (tag : Tag) (shard : ℕ) (c : Coordinated) (coords : Coordinations) → is_last_ack shard c ≡ false → acked tag shard c coords ≡ cond (ack_counts shard c) (with_coordinated tag (with_ack shard c) coords) coords
 others_keep tag shard c coords h = other_case (ack_counts shard c) (all_acked (with_ack shard c)) (taken_out tag_cmp tag coords) (with_coordinated tag (with_ack shard c) coords) coords h
+
+-- what is coordinated under a tag and under others, behind a change
+pub at_the_tag : (tag : Tag) (c : Coordinated) (coords : Coordinations) → coordinated_of (with_coordinated tag c coords) tag ≡ Some c
+at_the_tag tag c coords = ap (λ (o : Option (Tag × Coordinated)). option_map (λ entry. entry.1) o) (trees.put_found tag_cmp tag_total tag_exact tag c coords)
+
+pub at_another : (tag other : Tag) (c : Coordinated) (coords : Coordinations) → same_tag tag other ≡ false → coordinated_of (with_coordinated tag c coords) other ≡ coordinated_of coords other
+at_another tag other c coords apart = ap (λ (o : Option (Tag × Coordinated)). option_map (λ entry. entry.1) o) (trees.put_other tag_cmp tag_total tag_exact tag other c coords apart)
+
+pub at_another_left : (tag other : Tag) (coords : Coordinations) → same_tag tag other ≡ false → coordinated_of (taken_out tag_cmp tag coords) other ≡ coordinated_of coords other
+at_another_left tag other coords apart = ap (λ (o : Option (Tag × Coordinated)). option_map (λ entry. entry.1) o) (trees.taken_other tag_cmp tag_total tag_exact tag other coords apart)
+
+-- one of two lists
+pub either : (P : Coordinations → Type 0) (b : Bool) (xs ys : Coordinations) → P xs → P ys → P (cond b xs ys)
+either P true xs ys p q = p
+either P false xs ys p q = q
+
+-- what stands behind an acknowledgement that isn't the last
+pub decision_left : (b : Bool) (tag : Tag) (shard : ℕ) (c : Coordinated) (coords : Coordinations) (d : Decision) → c.decision ≡ Some d → coordinated_of coords tag ≡ Some c
+    → IsSomeAnd (coordinated_of (cond b (with_coordinated tag (with_ack shard c) coords) coords) tag) (λ after. after.decision ≡ Some d)
+decision_left true tag shard c coords d decided there = subst (λ (o : Option Coordinated). IsSomeAnd o (λ after. after.decision ≡ Some d)) (sym (at_the_tag tag (with_ack shard c) coords)) decided
+decision_left false tag shard c coords d decided there = subst (λ (o : Option Coordinated). IsSomeAnd o (λ after. after.decision ≡ Some d)) (sym there) decided

@@ -88,3 +88,44 @@ module _ {K A : Type 0} (cmp : K → K → Ordering) (total : IsTotalOrder cmp) 
   pub removed : (key : K) (rows : List (K × A)) → Rises cmp rows → remove_entry (is_at (cmp key)) rows ≡ taken_out cmp key rows
   removed key [] r = refl
   removed key (row ∷ rows) r = removed_case key row rows (remove_entry (is_at (cmp key)) rows) (cmp key row.0) refl r (none_removed key rows) (removed key rows r.1)
+
+  -- what is found under a key behind a change there, and under another key
+  abbrev at_key : K → K × A → Bool
+  at_key key row = is_eq (cmp row.0 key)
+
+  pub put_found_case : (key : K) (a : A) (row : K × A) (rows : List (K × A)) (o : Ordering) → cmp key row.0 ≡ o → find (at_key key) (put cmp key a rows) ≡ Some (key, a)
+      → find (at_key key) (elim o [ Less ↦ (key, a) ∷ row ∷ rows | Equal ↦ (key, a) ∷ rows | Greater ↦ row ∷ put cmp key a rows ]) ≡ Some (key, a)
+  put_found_case key a row rows Less is h = ap (λ (o : Ordering). cond (is_eq o) (Some (key, a)) (find (at_key key) (row ∷ rows))) (laying.cmp_self cmp total exact key)
+  put_found_case key a row rows Equal is h = ap (λ (o : Ordering). cond (is_eq o) (Some (key, a)) (find (at_key key) rows)) (laying.cmp_self cmp total exact key)
+  put_found_case key a row rows Greater is h =
+      ap (λ (o : Ordering). cond (is_eq o) (Some row) (find (at_key key) (put cmp key a rows))) (total.antisymm row.0 key ∙ ap ordering_reverse is) ∙ h
+
+  pub put_found : (key : K) (a : A) (rows : List (K × A)) → find (at_key key) (put cmp key a rows) ≡ Some (key, a)
+  put_found key a [] = ap (λ (o : Ordering). cond (is_eq o) (Some (key, a)) None) (laying.cmp_self cmp total exact key)
+  put_found key a (row ∷ rows) = put_found_case key a row rows (cmp key row.0) refl (put_found key a rows)
+
+  put_other_case : (key other : K) (a : A) (row : K × A) (rows : List (K × A)) (o : Ordering) → cmp key row.0 ≡ o → is_eq (cmp key other) ≡ false
+      → find (at_key other) (put cmp key a rows) ≡ find (at_key other) rows
+      → find (at_key other) (elim o [ Less ↦ (key, a) ∷ row ∷ rows | Equal ↦ (key, a) ∷ rows | Greater ↦ row ∷ put cmp key a rows ]) ≡ find (at_key other) (row ∷ rows)
+  put_other_case key other a row rows Less is apart h = ap (λ (b : Bool). cond b (Some (key, a)) (find (at_key other) (row ∷ rows))) apart
+  put_other_case key other a row rows Equal is apart h =
+      let here : is_eq (cmp row.0 other) ≡ false = ap (λ (k : K). is_eq (cmp k other)) (sym (exact key row.0 is)) ∙ apart in
+      ap (λ (b : Bool). cond b (Some (key, a)) (find (at_key other) rows)) apart ∙ sym (ap (λ (b : Bool). cond b (Some row) (find (at_key other) rows)) here)
+  put_other_case key other a row rows Greater is apart h = ap (λ (o : Option (K × A)). cond (at_key other row) (Some row) o) h
+
+  pub put_other : (key other : K) (a : A) (rows : List (K × A)) → is_eq (cmp key other) ≡ false → find (at_key other) (put cmp key a rows) ≡ find (at_key other) rows
+  put_other key other a [] apart = ap (λ (b : Bool). cond b (Some (key, a)) None) apart
+  put_other key other a (row ∷ rows) apart = put_other_case key other a row rows (cmp key row.0) refl apart (put_other key other a rows apart)
+
+  taken_other_case : (key other : K) (row : K × A) (rows : List (K × A)) (o : Ordering) → cmp key row.0 ≡ o → is_eq (cmp key other) ≡ false
+      → find (at_key other) (taken_out cmp key rows) ≡ find (at_key other) rows
+      → find (at_key other) (elim o [ Less ↦ row ∷ rows | Equal ↦ rows | Greater ↦ row ∷ taken_out cmp key rows ]) ≡ find (at_key other) (row ∷ rows)
+  taken_other_case key other row rows Less is apart h = refl
+  taken_other_case key other row rows Equal is apart h =
+      let here : is_eq (cmp row.0 other) ≡ false = ap (λ (k : K). is_eq (cmp k other)) (sym (exact key row.0 is)) ∙ apart in
+      sym (ap (λ (b : Bool). cond b (Some row) (find (at_key other) rows)) here)
+  taken_other_case key other row rows Greater is apart h = ap (λ (o : Option (K × A)). cond (at_key other row) (Some row) o) h
+
+  pub taken_other : (key other : K) (rows : List (K × A)) → is_eq (cmp key other) ≡ false → find (at_key other) (taken_out cmp key rows) ≡ find (at_key other) rows
+  taken_other key other [] apart = refl
+  taken_other key other (row ∷ rows) apart = taken_other_case key other row rows (cmp key row.0) refl apart (taken_other key other rows apart)

@@ -1,5 +1,5 @@
 -- The numbers of the routers that wait, against the flags that keep them.
-use Rattle.std.proofs.Common.{◌≡◌, ℕ, ◌+◌, ◌<◌, ◌≤◌, Bool, true, false, cond, List, [], ◌∷◌, ◌||◌, length, filter, set, get_or, refl, ap, sym, subst, ◌∙◌, arith, eqb, ltb, suc, zero, add-zero}
+use Rattle.std.proofs.Common.{◌≡◌, ℕ, ◌+◌, ◌<◌, ◌≤◌, Bool, true, false, cond, List, [], ◌∷◌, ◌||◌, length, filter, set, get_or, refl, ap, sym, ◌∙◌, arith, eqb, suc, zero, add-zero}
 use Rattle.std.specs.List.{list_any}
 use Rattle.std.proofs.lemmas.Bool.{lt-ltb, le-ltb, eq-eqb, ne_eqb}
 use Rattle.txn_types.specs.Numbers.{put_number}

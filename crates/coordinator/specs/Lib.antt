@@ -1,3 +1,4 @@
 pub mod Askers
+pub mod Decisions
 pub mod Room
 pub mod TwoPhase

@@ -108,7 +108,11 @@ impl Coordination {
     fn takes_part(&self, shard: u16) -> bool
         ensures { result ≡ takes_part shard self.now.plan }
     {
-        self.plan.parts.as_slice().iter().any(|part| part.0 == shard)
+        self.plan
+            .parts
+            .as_slice()
+            .iter()
+            .any(|part| part.0 == shard)
     }
 
     pub fn has_voted(&self, shard: u16) -> bool
@@ -301,7 +305,15 @@ impl Coordination {
         match &self.decision {
             Some(decision) => {
                 let wanted = self.unacked(alloc)?;
-                decides(alloc, from, time, tag, &self.plan, decision, wanted.as_slice())
+                decides(
+                    alloc,
+                    from,
+                    time,
+                    tag,
+                    &self.plan,
+                    decision,
+                    wanted.as_slice(),
+                )
             }
             None => {
                 let wanted = self.unheard(alloc)?;

@@ -44,7 +44,14 @@ pub fn prepares(
 }
 
 /// The message that tells a participant the decision.
-fn decide_letter(from: u16, time: Ts, tag: Tag, plan: &Plan, decision: &Decision, to: &(u16, u32)) -> Envelope
+fn decide_letter(
+    from: u16,
+    time: Ts,
+    tag: Tag,
+    plan: &Plan,
+    decision: &Decision,
+    to: &(u16, u32),
+) -> Envelope
     ensures { result ≡ sent_by (NodeId.Shard from) time (decide_to tag plan.now decision.now to.now) }
 {
     Envelope {

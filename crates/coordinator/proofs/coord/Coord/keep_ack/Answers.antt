@@ -1,10 +1,7 @@
-use Rattle.std.proofs.Common.{◌≡◌, List, Option, Some, None, Ok, Err, true, false, is_none, ap, sym, subst, refl, ◌∙◌, IfSome, IfNone, MatchOption}
+use Rattle.std.proofs.Common.{◌≡◌, Option, false, ap, sym, subst, ◌∙◌, IfSome, IfNone}
 use Rattle.std.specs.BTreeMap.{BTreeMap}
 use Rattle.txn_types.specs.declared.names.Tag.{Tag}
-use Rattle.txn_types.specs.declared.decision.Decision.{Decision}
-use Rattle.coordinator.specs.declared.plan.CoordErr.{CoordErr}
-use Rattle.coordinator.specs.declared.plan.CoordErr.TheVariants.{Unknown}
-use Rattle.coordinator.specs.TwoPhase.{Coordinated, Coordinations, coordinated_of, with_coordinated, asked, with_asker, voted, counts, behind_vote, decided_by, with_decision, acked, ack_counts, with_ack, is_last_ack}
+use Rattle.coordinator.specs.TwoPhase.{Coordinated, acked, ack_counts, with_ack, is_last_ack}
 use Rattle.coordinator.specs.contracts.coord.Coord.{the_view}
 use Rattle.coordinator.proofs.Found.{held_there, held_nowhere, changed, others_keep}
 use Rattle.coordinator.proofs.coord.Coord.keep_ack.Goals as goal

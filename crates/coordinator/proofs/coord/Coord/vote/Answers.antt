@@ -1,12 +1,12 @@
-use Rattle.std.proofs.Common.{◌≡◌, List, Option, Some, None, Result, Ok, Err, true, false, is_none, ap, sym, subst, refl, ◌∙◌, IfSome, IfNone, MatchOption}
+use Rattle.std.proofs.Common.{◌≡◌, Option, Result, Ok, Err, ap, sym, subst, ◌∙◌, MatchOption}
 use Rattle.std.specs.BTreeMap.{BTreeMap}
 use Rattle.txn_types.specs.declared.names.Tag.{Tag}
 use Rattle.txn_types.specs.declared.decision.Decision.{Decision}
 use Rattle.coordinator.specs.declared.plan.CoordErr.{CoordErr}
 use Rattle.coordinator.specs.declared.plan.CoordErr.TheVariants.{Unknown}
-use Rattle.coordinator.specs.TwoPhase.{Coordinated, Coordinations, coordinated_of, with_coordinated, asked, with_asker, voted, counts, behind_vote, decided_by, with_decision, acked, ack_counts, with_ack, is_last_ack}
+use Rattle.coordinator.specs.TwoPhase.{Coordinated, voted, counts, behind_vote, decided_by}
 use Rattle.coordinator.specs.contracts.coord.Coord.{the_view}
-use Rattle.coordinator.proofs.Found.{held_there, held_nowhere, changed, others_keep}
+use Rattle.coordinator.proofs.Found.{held_there, held_nowhere, changed}
 use Rattle.coordinator.proofs.coord.Coord.vote.Goals as goal
 use Rattle.coordinator.proofs.coord.Coord.vote.Goals.{in-Some, in-None}
 

@@ -1,4 +1,3 @@
-use Rattle.std.proofs.Common.{arith}
 use Rattle.std.specs.Vec.{vec_capacity}
 use Rattle.coordinator.proofs.Counting.{room_for}
 use Rattle.coordinator.proofs.coordination.Coordination.new.Goals as goal
