@@ -1,0 +1,9 @@
+use Rattle.std.proofs.Common.{◌≡◌, ◌++◌, map, drop}
+use Rattle.txn_types.specs.Letters.{all_sent_by}
+use Rattle.txn_types.specs.declared.node.NodeId.TheVariants.{Shard}
+use Rattle.coordinator.specs.TwoPhase.{prepare_to}
+use Rattle.coordinator.proofs.sending.prepares.Given as goal
+
+abbrev pub invariant-loop-participant : goal.invariant-loop-participant
+invariant-loop-participant l =
+    l.letters.items ++ all_sent_by (Shard l.from) l.time (map (prepare_to l.from l.tag l.plan) (drop l.participant-index l.to)) ≡ all_sent_by (Shard l.from) l.time (map (prepare_to l.from l.tag l.plan) l.to)

@@ -1,0 +1,4 @@
+pub mod Askers
+pub mod Decisions
+pub mod Room
+pub mod TwoPhase
