@@ -1,0 +1,4 @@
+pub mod Risen
+pub mod Ranges
+pub mod Asked
+pub mod Sent
