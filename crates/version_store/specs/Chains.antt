@@ -1,0 +1,76 @@
+-- The versions of one document as a store keeps them, and the documents of one namespace.
+use Rattle.std.specs.Prelude.{◌≡◌, ℕ, Bool, true, false, filter, List, [], ◌∷◌, map, is_some, unwrap_or, Option, Some, None, if◌then◌else◌}
+use Rattle.std.specs.Map.{lookup}
+use Rattle.std.specs.BTreeMap.{is_at}
+use Rattle.std.specs.Ordering.{is_eq}
+use Rattle.std.specs.declared.cmp.Ordering.{Ordering}
+use Rattle.bson_core.specs.Fields.{Document}
+use Rattle.txn_types.specs.Order.{id_cmp}
+use Rattle.txn_types.specs.declared.id.Id.{Id}
+use Rattle.txn_types.specs.declared.names.Tag.{Tag}
+use Rattle.txn_types.specs.declared.write.Write.{Write}
+use Rattle.txn_types.specs.declared.write.Write.TheVariants.{Put, Delete}
+use Rattle.txn_semantics.specs.Keyed.{Rises}
+use Rattle.txn_semantics.specs.Writes.{Place, place_cmp}
+use Rattle.version_store.specs.declared.version.Version.{Version}
+use Rattle.version_store.specs.Versions.{Versions, first, writer_of, is_of}
+
+-- all are committed
+abbrev pub AreCommitted : List Version → Type 0
+AreCommitted [] = Unit {0}
+AreCommitted (version ∷ versions) = (writer_of version.stamp ≡ None) × AreCommitted versions
+
+-- all but the first are committed
+abbrev pub IsChain : List Version → Type 0
+IsChain [] = Unit {0}
+IsChain (version ∷ versions) = AreCommitted versions
+
+-- whether the first is the transaction's
+abbrev pub begins : Tag → List Version → Bool
+begins tag [] = false
+begins tag (version ∷ versions) = is_of tag version
+
+-- there is a version, and all but the first are committed
+abbrev pub IsHistory : List Version → Type 0
+IsHistory versions = (is_some (first versions) ≡ true) × IsChain versions
+
+-- such versions stand under each key
+abbrev pub AreHistories : {K : Type 0} → List (K × List Version) → Type 0
+AreHistories [] = Unit {0}
+AreHistories (row ∷ rows) = IsHistory row.1 × AreHistories rows
+
+-- the documents of a namespace: the ids rise, each with its versions
+pub record IsCollection (rows : List (Id × List Version)) : Type 0 where
+  pub rises : Rises id_cmp rows
+  pub histories : AreHistories rows
+
+abbrev pub AreCollections : List (List ℕ × List (Id × List Version)) → Type 0
+AreCollections [] = Unit {0}
+AreCollections (group ∷ groups) = IsCollection group.1 × AreCollections groups
+
+-- what a store keeps: the keys rise, each has a version, and all versions of a key but the first are committed
+pub record IsKept (store : Versions) : Type 0 where
+  pub rises : Rises place_cmp store
+  pub histories : AreHistories store
+
+-- the versions under a key
+abbrev pub versions_at : {K : Type 0} → (K → K → Ordering) → K → List (K × List Version) → List Version
+versions_at cmp key rows = unwrap_or (lookup (is_at (cmp key)) rows) []
+
+-- the write of a document, or of none, at a place
+abbrev pub write_of : Place → Option Document → Write
+write_of place (Some doc) = Put place.0 place.1 doc
+write_of place None = Delete place.0 place.1
+
+-- with something else under one key
+abbrev pub changed_at : {K V : Type 0} → (K → K → Ordering) → (V → V) → K → List (K × V) → List (K × V)
+changed_at cmp f key rows = map (λ row. if is_eq (cmp key row.0) then (row.0, f row.1) else row) rows
+
+-- and under several, one after the other
+abbrev pub changed_under : {K V : Type 0} → (K → K → Ordering) → (V → V) → List K → List (K × V) → List (K × V)
+changed_under cmp f [] rows = rows
+changed_under cmp f (key ∷ keys) rows = changed_under cmp f keys (changed_at cmp f key rows)
+
+-- without the keys that have no version
+abbrev pub with_versions : {K : Type 0} → List (K × List Version) → List (K × List Version)
+with_versions rows = filter (λ row. is_some (first row.1)) rows

@@ -1,0 +1,5 @@
+pub mod Versions
+pub mod Nested
+pub mod Chains
+pub mod Collections
+pub mod Refusals

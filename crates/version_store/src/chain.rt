@@ -1,0 +1,273 @@
+ghost use Rattle.std.specs.Prelude.{◌≡◌, [], ◌∷◌, find, map, not, is_some, None, Some, IfOk, IfErr, OnOk, OnErr};
+ghost use Rattle.std.specs.List.{filter_map};
+ghost use Rattle.std.specs.Option.{option_copied};
+ghost use Rattle.txn_types.specs.Order.{same_tag};
+ghost use Rattle.version_store.specs.Versions.{first, without, restamped, holder_of, holder, is_of, is_committed_by, seen, other_writer_of, newest_of, against, writer_of, commit_of};
+ghost use Rattle.version_store.specs.Chains.{begins};
+ghost use Rattle.version_store.specs.declared.version.Version.{Version};
+
+use crate::version::{Stamp, Version};
+use bson_core::Doc;
+use std::alloc::Global;
+use std::marker::Model;
+use txn_types::{By, Tag, Ts};
+
+/// Whether the tags are the same.
+fn is_same(a: &Tag, b: &Tag) -> bool
+    ensures { result ≡ same_tag a.now b.now }
+{
+    let later = a.boot.cmp(&b.boot).then(a.serial.cmp(&b.serial));
+    a.router.cmp(&b.router).then(later).is_eq()
+}
+
+/// The transaction that a version is of, where it isn't committed.
+fn writer(stamp: &Stamp) -> Option<Tag>
+    ensures { result ≡ writer_of stamp.now }
+{
+    match stamp {
+        Stamp::Unfinished(tag) | Stamp::Prepared(tag, _) => Some(*tag),
+        Stamp::At(_) => None,
+    }
+}
+
+/// When a version was committed.
+fn commit(stamp: &Stamp) -> Option<Ts>
+    ensures { result ≡ commit_of stamp.now }
+{
+    match stamp {
+        Stamp::At(at) => Some(*at),
+        Stamp::Unfinished(_) | Stamp::Prepared(_, _) => None,
+    }
+}
+
+/// Whether the version is the transaction's.
+pub fn is_of(tag: &Tag, version: &Version) -> bool
+    ensures { result ≡ is_of tag.now version.now }
+{
+    match writer(&version.stamp) {
+        Some(writer) => is_same(&writer, tag),
+        None => false,
+    }
+}
+
+/// Whether the version was committed at or below the moment.
+fn is_committed_by(at: Ts, version: &Version) -> bool
+    ensures { result ≡ is_committed_by at version.now }
+{
+    match commit(&version.stamp) {
+        Some(commit) => commit.0 <= at.0,
+        None => false,
+    }
+}
+
+/// Another transaction that prepared the version, and its prepare timestamp, where that is at or below the moment.
+fn holder_of(at: Ts, tag: &Tag, stamp: &Stamp) -> Option<(Tag, Ts)>
+    ensures { result ≡ holder_of at tag.now stamp.now }
+{
+    match stamp {
+        Stamp::Prepared(writer, since) => {
+            if !is_same(writer, tag) && since.0 <= at.0 {
+                return Some((*writer, *since));
+            }
+            None
+        }
+        Stamp::Unfinished(_) | Stamp::At(_) => None,
+    }
+}
+
+/// Who holds a key with these versions.
+pub fn holder(at: Ts, tag: &Tag, versions: &[Version]) -> Option<(Tag, Ts)>
+    ensures { result ≡ holder at tag.now versions.now }
+{
+    for version in versions {
+        if let Some(held) = holder_of(at, tag, &version.stamp) {
+            return Some(held);
+        }
+    }
+    None
+}
+
+/// The transaction's own version.
+fn own<'a>(tag: &Tag, versions: &'a [Version]) -> Option<&'a Version>
+    ensures { option_copied result ≡ find (is_of tag.now) versions.now }
+{
+    for version in versions {
+        if is_of(tag, version) {
+            return Some(version);
+        }
+    }
+    None
+}
+
+/// The newest version that was committed at or below the moment.
+fn newest_by(at: Ts, versions: &[Version]) -> Option<&Version>
+    ensures { option_copied result ≡ find (is_committed_by at) versions.now }
+{
+    for version in versions {
+        if is_committed_by(at, version) {
+            return Some(version);
+        }
+    }
+    None
+}
+
+/// The document that the transaction sees there.
+pub fn seen<'a>(at: Ts, tag: &Tag, versions: &'a [Version]) -> Option<&'a Doc>
+    ensures { option_copied result ≡ seen at tag.now versions.now }
+{
+    let version = match own(tag, versions) {
+        Some(version) => version,
+        None => newest_by(at, versions)?,
+    };
+    version.doc.as_ref()
+}
+
+/// When the newest commit was.
+pub fn newest_of(versions: &[Version]) -> Option<Ts>
+    ensures { result ≡ newest_of versions.now }
+{
+    for version in versions {
+        if let Some(at) = commit(&version.stamp) {
+            return Some(at);
+        }
+    }
+    None
+}
+
+/// The transaction of a version that isn't committed, where it is another one.
+fn other_writer(tag: &Tag, version: &Version) -> Option<Tag>
+    ensures { result ≡ other_writer_of tag.now version.now }
+{
+    let writer = writer(&version.stamp)?;
+    if is_same(&writer, tag) {
+        return None;
+    }
+    Some(writer)
+}
+
+/// Another transaction with a version there that isn't committed.
+fn other(tag: &Tag, versions: &[Version]) -> Option<Tag>
+    ensures { result ≡ first (filter_map (other_writer_of tag.now) versions.now) }
+{
+    for version in versions {
+        if let Some(writer) = other_writer(tag, version) {
+            return Some(writer);
+        }
+    }
+    None
+}
+
+/// What stands against a write of the transaction.
+pub fn against(at: Ts, tag: &Tag, versions: &[Version]) -> Option<By>
+    ensures { result ≡ against at tag.now versions.now }
+{
+    if let Some(writer) = other(tag, versions) {
+        return Some(By::Tag(writer));
+    }
+    let commit = newest_of(versions)?;
+    if at.0 < commit.0 {
+        return Some(By::At(commit));
+    }
+    None
+}
+
+/// Whether the first version is the transaction's.
+fn begins(tag: &Tag, versions: &[Version]) -> bool
+    ensures { result ≡ begins tag.now versions.now }
+{
+    match versions.first() {
+        Some(version) => is_of(tag, version),
+        None => false,
+    }
+}
+
+/// The versions of a key, newest first. All but the first are committed.
+#[derive(Drop)]
+pub struct Chain {
+    versions: Vec<Version>,
+}
+
+impl Model for Chain {
+    ghost use Rattle.std.specs.Prelude.{List};
+    ghost use Rattle.std.specs.Coded.{codes};
+    ghost use Rattle.bson_core.specs.contracts.value.Value as value;
+    ghost use Rattle.version_store.specs.declared.version.Version.{Version};
+    ghost use Rattle.version_store.specs.Chains.{IsChain};
+
+    ghost Value = { List Version };
+
+    ghost coded = { Prim.hlevel (codes, value.the_row.coded) };
+
+    ghost view = { λ c. c.versions.items };
+
+    ghost invariant = { λ c. IsChain c.versions.items };
+}
+
+impl Chain {
+    /// One version.
+    pub fn new(alloc: Global, version: Version) -> Result<Chain, Version>
+        ensures ok { IfOk result (λ c. c ≡ version ∷ []) }
+        ensures back { IfErr result (λ v. v ≡ version) }
+    {
+        let mut versions = Vec::new(alloc);
+        match versions.push(version) {
+            Ok(()) => Ok(Chain { versions }),
+            Err(failed) => Err(failed.value),
+        }
+    }
+
+    pub fn as_slice(&self) -> &[Version]
+        ensures { result.now ≡ self.now }
+    {
+        self.versions.as_slice()
+    }
+
+    pub fn is_empty(&self) -> bool
+        ensures { result ≡ not (is_some (first self.now)) }
+    {
+        self.versions.is_empty()
+    }
+
+    /// Takes the one version out of a list of one.
+    pub fn into_only(self) -> Option<Version>
+        ensures { (v : Version) → self ≡ v ∷ [] → result ≡ Some v }
+    {
+        let mut versions = self.versions;
+        versions.pop()
+    }
+
+    /// Puts a version of the transaction in front, in place of its own older one.
+    pub fn put(&mut self, tag: &Tag, version: Version) -> Result<(), Version>
+        requires { first (filter_map (other_writer_of tag.now) self.old) ≡ None }
+        ensures ok { OnOk result (self.new ≡ version ∷ without tag.now self.old) }
+        ensures err { OnErr result (self.new ≡ self.old) }
+        ensures back { IfErr result (λ v. v ≡ version) }
+    {
+        if begins(tag, self.versions.as_slice()) {
+            self.versions[0] = version;
+            return Ok(());
+        }
+        match self.versions.insert(0, version) {
+            Ok(()) => Ok(()),
+            Err(failed) => Err(failed.value),
+        }
+    }
+
+    /// Gives the transaction's versions this stamp.
+    pub fn restamp(&mut self, tag: &Tag, stamp: &Stamp)
+        ensures { self.new ≡ map (restamped tag.now stamp.now) self.old }
+    {
+        if begins(tag, self.versions.as_slice()) {
+            self.versions[0].stamp = *stamp;
+        }
+    }
+
+    /// Takes the transaction's versions out.
+    pub fn take_out(&mut self, tag: &Tag)
+        ensures { self.new ≡ without tag.now self.old }
+    {
+        if begins(tag, self.versions.as_slice()) {
+            self.versions.remove(0);
+        }
+    }
+}
