@@ -1,0 +1,9 @@
+pub mod Cases
+pub mod Clocks
+pub mod Ends
+pub mod Following
+pub mod Tests
+pub mod Ordered
+pub mod Tags
+pub mod Keys
+pub mod Moving

@@ -1,0 +1,175 @@
+-- A part of which one session changes stands as it should.
+use Rattle.std.proofs.Common.{◌≡◌, ℕ, Bool, true, false, cond, List, [], ◌∷◌, Option, Some, None, IsSome, IsSomeAnd, IfSome, find, map, option_map, refl, ap, subst, ◌∙◌, sym}
+use Rattle.txn_types.specs.BySession.{BySession, entry_of, with_entry}
+use Rattle.txn_types.specs.Order.{same_tag, same_lsid, lsid_cmp}
+use Rattle.txn_types.specs.declared.cause.Cause.{Cause}
+use Rattle.txn_types.specs.declared.names.Tag.{Tag}
+use Rattle.txn_types.specs.declared.node.Lsid.{Lsid}
+use Rattle.txn_types.proofs.Orders.{lsid_total, lsid_exact}
+use Rattle.txn_semantics.specs.Keyed.{taken_out, Rises}
+use Rattle.txn_semantics.specs.Writes.{Place, place_of}
+use Rattle.session_table.specs.Sessions.{Table, with_state}
+use Rattle.session_table.specs.declared.session.Session.{Session}
+use Rattle.session_table.specs.declared.session.SessionState.{SessionState}
+use Rattle.session_table.specs.declared.session.SessionState.TheVariants as state
+use Rattle.version_store.specs.Versions.{Versions, keys_of, dropped, stamped}
+use Rattle.participant.specs.declared.said.Open.{Open}
+use Rattle.participant.specs.Part.{Part, session, open_of, is_open, ended, aborted, end_live, ends_live}
+use Rattle.participant.specs.Laws.{ChangesOnly}
+use Rattle.participant.specs.Stands.{StateAt, SessionAt, Stands}
+use Rattle.participant.proofs.Ends.{ended_changes}
+use Rattle.version_store.proofs.Keyed.{found}
+use Rattle.participant.proofs.Keys.{keys_dropped}
+use Rattle.participant.proofs.Ordered.{taken_none}
+use Rattle.participant.proofs.Tags.{tag_flip, lsid_self, lsid_same, lsid_flip}
+
+-- the keys of an open transaction are as they were
+abbrev SameKeys : Versions → Versions → Option Session → Type 0
+SameKeys old new s = (t : Session) → s ≡ Some t → is_open t.state ≡ true → keys_of t.tag new ≡ keys_of t.tag old
+
+state_kept : (old new : Versions) (s : Session) (st : SessionState) (o : Option Open) → (is_open st ≡ true → keys_of s.tag new ≡ keys_of s.tag old) → StateAt old s st o → StateAt new s st o
+state_kept old new s state.Live None same h = h
+state_kept old new s state.Live (Some o) same h = (h.0, h.1 ∙ sym (same refl))
+state_kept old new s (state.Prepared at coordinator) o same h = h
+state_kept old new s (state.Committed at) o same h = h
+state_kept old new s state.Released o same h = h
+state_kept old new s (state.Aborted why read_at) o same h = h
+
+session_kept : (old new : Versions) (s : Option Session) (o : Option Open) → SameKeys old new s → SessionAt old s o → SessionAt new s o
+session_kept old new None o same h = h
+session_kept old new (Some s) o same h = state_kept old new s s.state o (same s refl) h
+
+-- what the change of one session has to keep
+pub record Moves (lsid : Lsid) (p q : Part) : Type 0 where
+  pub others : ChangesOnly lsid p q
+  pub mine : SessionAt q.store (session q lsid) (open_of q lsid)
+  pub keys : (x : Lsid) (t : Session) → same_lsid x lsid ≡ false → session p x ≡ Some t → is_open t.state ≡ true → keys_of t.tag q.store ≡ keys_of t.tag p.store
+  pub apart : (x : Lsid) (s t : Session) → same_lsid x lsid ≡ false → session q lsid ≡ Some s → session p x ≡ Some t → is_open s.state ≡ true → is_open t.state ≡ true → same_tag s.tag t.tag ≡ false
+
+sessions_case : (lsid : Lsid) (p q : Part) (x : Lsid) (b : Bool) → same_lsid x lsid ≡ b → Stands p → Moves lsid p q → SessionAt q.store (session q x) (open_of q x)
+sessions_case lsid p q x true is stands moves = subst (λ l. SessionAt q.store (session q l) (open_of q l)) (sym (lsid_same x lsid is)) moves.mine
+sessions_case lsid p q x false is stands moves =
+    subst (λ s. SessionAt q.store s (open_of q x)) (sym (moves.others.sessions x is))
+    (subst (λ o. SessionAt q.store (session p x) o) (sym (moves.others.live x is))
+    (session_kept p.store q.store (session p x) (open_of p x) (λ t here. moves.keys x t is here) (stands.sessions x)))
+
+apart_case : (lsid : Lsid) (p q : Part) (a b : Lsid) (s t : Session) (x y : Bool) → same_lsid a lsid ≡ x → same_lsid b lsid ≡ y → Stands p → Moves lsid p q
+    → session q a ≡ Some s → session q b ≡ Some t → is_open s.state ≡ true → is_open t.state ≡ true → same_tag s.tag t.tag ≡ true → same_lsid a b ≡ true
+apart_case lsid p q a b s t true true ha hb stands moves hs ht so to same =
+    subst (λ l. same_lsid l b ≡ true) (sym (lsid_same a lsid ha)) (lsid_flip lsid b ∙ hb)
+apart_case lsid p q a b s t true false ha hb stands moves hs ht so to same =
+    let here : session q lsid ≡ Some s = subst (λ l. session q l ≡ Some s) (lsid_same a lsid ha) hs in
+    let wrong : true ≡ false = sym same ∙ moves.apart b s t hb here (sym (moves.others.sessions b hb) ∙ ht) so to in
+    cc
+apart_case lsid p q a b s t false true ha hb stands moves hs ht so to same =
+    let here : session q lsid ≡ Some t = subst (λ l. session q l ≡ Some t) (lsid_same b lsid hb) ht in
+    let wrong : true ≡ false = sym same ∙ tag_flip s.tag t.tag ∙ moves.apart a t s ha here (sym (moves.others.sessions a ha) ∙ hs) to so in
+    cc
+apart_case lsid p q a b s t false false ha hb stands moves hs ht so to same =
+    stands.apart a b s t (sym (moves.others.sessions a ha) ∙ hs) (sym (moves.others.sessions b hb) ∙ ht) so to same
+
+pub moved : (lsid : Lsid) (p q : Part) → Stands p → Moves lsid p q → Stands q
+moved lsid p q stands moves = record {
+  sessions = λ x. sessions_case lsid p q x (same_lsid x lsid) refl stands moves;
+  apart = λ a b s t. apart_case lsid p q a b s t (same_lsid a lsid) (same_lsid b lsid) refl refl stands moves;
+}
+
+-- The session that changes.
+
+entry_case : {A : Type 0} (lsid : Lsid) (a : A) (entry : Lsid × A) (entries : BySession A) (b : Bool) → same_lsid lsid entry.0 ≡ b → entry_of lsid (with_entry lsid a entries) ≡ Some a
+    → entry_of lsid (cond b ((lsid, a) ∷ entries) (entry ∷ with_entry lsid a entries)) ≡ Some a
+entry_case {A} lsid a entry entries true is more = ap (λ b. option_map (λ (entry : Lsid × A). entry.1) (cond b (Some (lsid, a)) (find (λ (entry : Lsid × A). same_lsid lsid entry.0) entries))) (lsid_self lsid)
+entry_case {A} lsid a entry entries false is more = ap (λ b. option_map (λ (entry : Lsid × A). entry.1) (cond b (Some entry) (find (λ (entry : Lsid × A). same_lsid lsid entry.0) (with_entry lsid a entries)))) is ∙ more
+
+pub entry_here : {A : Type 0} (lsid : Lsid) (a : A) (entries : BySession A) → entry_of lsid (with_entry lsid a entries) ≡ Some a
+entry_here {A} lsid a [] = ap (λ b. option_map (λ (entry : Lsid × A). entry.1) (cond b (Some (lsid, a)) None)) (lsid_self lsid)
+entry_here lsid a (entry ∷ entries) = entry_case lsid a entry entries (same_lsid lsid entry.0) refl (entry_here lsid a entries)
+
+-- two sessions with open transactions have two tags
+pub of_two : (p : Part) (lsid x : Lsid) (s t : Session) → Stands p → session p lsid ≡ Some s → is_open s.state ≡ true → same_lsid x lsid ≡ false → session p x ≡ Some t → is_open t.state ≡ true → same_tag t.tag s.tag ≡ false
+of_two p lsid x s t stands hs so other ht to = apart_from (same_tag t.tag s.tag) refl
+  where
+    apart_from : (b : Bool) → same_tag t.tag s.tag ≡ b → b ≡ false
+    apart_from true h = let wrong : true ≡ false = sym (stands.apart x lsid t s ht hs to so h) ∙ other in cc
+    apart_from false h = refl
+
+-- What ends a transaction.
+
+closed_at : (store : Versions) (s : Session) (st : SessionState) (o : Option Open) → is_open st ≡ false → o ≡ None → StateAt store s st o
+closed_at store s state.Live o closed none = let wrong : true ≡ false = closed in cc
+closed_at store s (state.Prepared at coordinator) o closed none = none
+closed_at store s (state.Committed at) o closed none = none
+closed_at store s state.Released o closed none = none
+closed_at store s (state.Aborted why read_at) o closed none = none
+
+pub none_live : (p : Part) (lsid : Lsid) → Rises lsid_cmp p.live → entry_of lsid (taken_out lsid_cmp lsid p.live) ≡ None
+none_live p lsid r = sym (found lsid_cmp lsid (taken_out lsid_cmp lsid p.live)) ∙ taken_none lsid_cmp lsid_total lsid_exact lsid p.live r
+
+pub ended_stands : (p : Part) (store : Versions) (lsid : Lsid) (s : Session) (st : SessionState) → Stands p → Rises lsid_cmp p.live → is_open st ≡ false
+    → ((x : Lsid) (t : Session) → same_lsid x lsid ≡ false → session p x ≡ Some t → is_open t.state ≡ true → keys_of t.tag store ≡ keys_of t.tag p.store)
+    → Stands (ended (record p { store = store }) lsid s st)
+ended_stands p store lsid s st stands r closed keys =
+    let now : Session = record { number = s.number; tag = s.tag; state = st } in
+    let q : Part = ended (record p { store = store }) lsid s st in
+    let here : session q lsid ≡ Some now = entry_here lsid now p.sessions.entries in
+    moved lsid p q stands
+    (record {
+      others = ended_changes lsid p store s st;
+      mine = subst (λ o. SessionAt store o (open_of q lsid)) (sym here) (closed_at store now st (open_of q lsid) closed (none_live p lsid r));
+      keys = keys;
+      apart = λ x u t other hu ht uo to.
+      let same : Some now ≡ Some u = sym here ∙ hu in
+      let one : now ≡ u = cc in
+      let wrong : true ≡ false = sym uo ∙ ap (λ (v : Session). is_open v.state) (sym one) ∙ closed in
+      cc;
+    })
+
+-- a live transaction ends with a cause
+pub record Ending (p : Part) (lsid : Lsid) (why : Cause) (o : Open) : Type 0 where
+  pub keys : map place_of o.writes ≡ keys_of o.tag p.store
+  pub there : IsSome (session p lsid)
+  pub gives : (table : Table) (live : List (Lsid × Open)) (store : Versions) → IfSome (session p lsid) (λ s. table ≡ with_state p.sessions lsid s (state.Aborted why 0)) → live ≡ taken_out lsid_cmp lsid p.live → store ≡ dropped o.tag p.store
+      → record p { sessions = table; live = live; store = store } ≡ end_live p lsid why
+  pub stands : Stands (end_live p lsid why)
+
+live_state : (p : Part) (s : Session) (o : Open) (st : SessionState) → st ≡ state.Live → StateAt p.store s st (Some o) → (o.tag ≡ s.tag) × (map place_of o.writes ≡ keys_of s.tag p.store)
+live_state p s o st is h = subst (λ x. StateAt p.store s x (Some o)) is h
+
+is_live_open : (st : SessionState) → st ≡ state.Live → is_open st ≡ true
+is_live_open st is = ap is_open is
+
+made : (p : Part) (table table2 : Table) (live live2 : List (Lsid × Open)) (store store2 : Versions) → table ≡ table2 → live ≡ live2 → store ≡ store2
+    → (let a : Part = record p { sessions = table; live = live; store = store } in a) ≡ (let b : Part = record p { sessions = table2; live = live2; store = store2 } in b)
+made p table table2 live live2 store store2 a b c =
+    ap (λ (t : Table). let x : Part = record p { sessions = t; live = live; store = store } in x) a
+    ∙ ap (λ (l : List (Lsid × Open)). let x : Part = record p { sessions = table2; live = l; store = store } in x) b
+    ∙ ap (λ (v : Versions). let x : Part = record p { sessions = table2; live = live2; store = v } in x) c
+
+ending_case : (p : Part) (lsid : Lsid) (why : Cause) (o : Open) (found_there : Option Session) → session p lsid ≡ found_there → Stands p → Rises lsid_cmp p.live → IsSomeAnd found_there (λ s. s.state ≡ state.Live) → Some o ≡ open_of p lsid → Ending p lsid why o
+ending_case p lsid why o None is stands r live mine = absurd live
+ending_case p lsid why o (Some s) is stands r live mine =
+    let at : SessionAt p.store (Some s) (Some o) = subst (λ x. SessionAt p.store (Some s) x) (sym mine) (subst (λ x. SessionAt p.store x (open_of p lsid)) is (stands.sessions lsid)) in
+    let both = live_state p s o s.state live at in
+    let so : is_open s.state ≡ true = is_live_open s.state live in
+    let told : end_live p lsid why ≡ aborted p lsid s why = ap (ends_live p lsid why) is in
+    record {
+      keys = both.1 ∙ ap (λ tag. keys_of tag p.store) (sym both.0);
+      there = subst IsSome (sym is) refl;
+      gives = λ table live store ht hl hs.
+      let table_is : table ≡ with_state p.sessions lsid s (state.Aborted why 0) = subst (λ x. IfSome x (λ s. table ≡ with_state p.sessions lsid s (state.Aborted why 0))) is ht in
+      made p table (with_state p.sessions lsid s (state.Aborted why 0)) live (taken_out lsid_cmp lsid p.live) store (dropped s.tag p.store) table_is hl (hs ∙ ap (λ tag. dropped tag p.store) both.0)
+      ∙ sym told;
+      stands = subst Stands (sym told) (ended_stands p (dropped s.tag p.store) lsid s (state.Aborted why 0) stands r refl (λ x t other ht to. keys_dropped s.tag t.tag p.store (of_two p lsid x s t stands is so other ht to)));
+    }
+
+pub ending : (p : Part) (lsid : Lsid) (why : Cause) (o : Open) → Stands p → Rises lsid_cmp p.live → IsSomeAnd (session p lsid) (λ s. s.state ≡ state.Live) → Some o ≡ open_of p lsid → Ending p lsid why o
+ending p lsid why o stands r live mine = ending_case p lsid why o (session p lsid) refl stands r live mine
+
+-- a live transaction has something here
+has_none : (p : Part) (lsid : Lsid) (found_there : Option Session) → session p lsid ≡ found_there → Stands p → IsSomeAnd found_there (λ s. s.state ≡ state.Live) → None ≡ open_of p lsid → ⊥
+has_none p lsid None is stands live none = live
+has_none p lsid (Some s) is stands live none =
+    subst (λ x. StateAt p.store s x None) live (subst (λ x. SessionAt p.store (Some s) x) (sym none) (subst (λ x. SessionAt p.store x (open_of p lsid)) is (stands.sessions lsid)))
+
+pub has_something : (p : Part) (lsid : Lsid) → Stands p → IsSomeAnd (session p lsid) (λ s. s.state ≡ state.Live) → None ≡ open_of p lsid → ⊥
+has_something p lsid stands live none = has_none p lsid (session p lsid) refl stands live none

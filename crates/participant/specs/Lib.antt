@@ -1,0 +1,12 @@
+pub mod Part
+pub mod Statement
+pub mod Commit
+pub mod Prepare
+pub mod Decide
+pub mod Abort
+pub mod Recover
+pub mod Expiry
+pub mod Memory
+pub mod Sound
+pub mod Laws
+pub mod Stands

@@ -1,0 +1,30 @@
+-- What the calls of a shard's part need of it, and keep: of all that belongs to a part, the keys of the transactions that
+-- are live, and that each open one is of one session.
+use Rattle.std.specs.Prelude.{◌≡◌, true, map, Option, Some, None}
+use Rattle.txn_types.specs.Order.{same_tag, same_lsid}
+use Rattle.txn_types.specs.declared.node.Lsid.{Lsid}
+use Rattle.txn_semantics.specs.Writes.{place_of}
+use Rattle.session_table.specs.declared.session.Session.{Session}
+use Rattle.session_table.specs.declared.session.SessionState.{SessionState}
+use Rattle.session_table.specs.declared.session.SessionState.TheVariants as state
+use Rattle.version_store.specs.Versions.{Versions, keys_of}
+use Rattle.participant.specs.declared.said.Open.{Open}
+use Rattle.participant.specs.Part.{Part, session, open_of, is_open}
+
+-- a live transaction has something here, and its versions are of the documents that it wrote; no other has
+abbrev pub StateAt : Versions → Session → SessionState → Option Open → Type 0
+StateAt store s state.Live None = ⊥
+StateAt store s state.Live (Some o) = (o.tag ≡ s.tag) × (map place_of o.writes ≡ keys_of s.tag store)
+StateAt store s (state.Prepared at coordinator) o = o ≡ None
+StateAt store s (state.Committed at) o = o ≡ None
+StateAt store s state.Released o = o ≡ None
+StateAt store s (state.Aborted why read_at) o = o ≡ None
+
+abbrev pub SessionAt : Versions → Option Session → Option Open → Type 0
+SessionAt store None o = o ≡ None
+SessionAt store (Some s) o = StateAt store s s.state o
+
+-- each session has what its state says, and open transactions of one tag are of one session
+pub record Stands (p : Part) : Type 0 where
+  pub sessions : (lsid : Lsid) → SessionAt p.store (session p lsid) (open_of p lsid)
+  pub apart : (a b : Lsid) (s t : Session) → session p a ≡ Some s → session p b ≡ Some t → is_open s.state ≡ true → is_open t.state ≡ true → same_tag s.tag t.tag ≡ true → same_lsid a b ≡ true

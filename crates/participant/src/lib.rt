@@ -1,0 +1,14 @@
+//! A shard's part in transactions: statements, commit, prepare, decision, abort, recovery and expiry.
+#![tactic(auto)]
+
+mod ending;
+mod key;
+pub mod laws;
+mod lives;
+mod merging;
+mod part;
+mod said;
+mod touching;
+
+pub use part::Participant;
+pub use said::{Done, Open, PartErr, Said, Voted};

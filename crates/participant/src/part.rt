@@ -1,0 +1,108 @@
+ghost use Rattle.std.specs.Prelude.{◌≡◌, [], IsSomeAnd};
+ghost use Rattle.std.specs.Option.{option_copied};
+ghost use Rattle.session_table.specs.declared.session.SessionState.TheVariants.{Live};
+ghost use Rattle.participant.specs.Part.{session, end_live};
+ghost use Rattle.participant.specs.Stands.{Stands};
+
+use crate::lives::Lives;
+use session_table::{Session, SessionState, Sessions};
+use sqlite_items::Items;
+use std::alloc::Global;
+use std::marker::Model;
+use txn_types::{Cause, Lsid, Ts};
+use version_store::{Pendings, Store};
+
+/// A shard's part in transactions: its sessions, what its live transactions have, its prepared ones, and the versions of
+/// its documents.
+#[derive(Drop)]
+pub struct Participant {
+    pub(crate) alloc: Global,
+    pub(crate) shard: u16,
+    pub(crate) boot: u32,
+    pub(crate) sessions: Sessions,
+    pub(crate) live: Lives,
+    pub(crate) pending: Pendings,
+    pub(crate) store: Store,
+}
+
+impl Model for Participant {
+    ghost use Rattle.std.specs.Coded.{codes};
+    ghost use Rattle.bson_core.specs.contracts.value.Value as value;
+    ghost use Rattle.participant.specs.Part.{Part};
+    ghost use Rattle.participant.specs.Stands.{Stands};
+
+    ghost Value = { Part };
+
+    ghost coded = { Prim.hlevel (codes, value.the_row.coded) };
+
+    ghost view = { λ p. record { shard = p.shard; boot = p.boot; sessions = p.sessions; live = p.live; pending = p.pending; store = p.store } };
+
+    ghost invariant = { λ p. Stands (record { shard = p.shard; boot = p.boot; sessions = p.sessions; live = p.live; pending = p.pending; store = p.store }) };
+}
+
+impl Participant {
+    /// A part without sessions and documents; as many sessions as `limit` may come.
+    pub fn new(alloc: Global, shard: u16, boot: u32, limit: u32) -> Participant
+        ensures { result ≡ record { shard = shard; boot = boot; sessions = record { limit = limit; entries = [] }; live = []; pending = []; store = [] } }
+    {
+        Participant {
+            alloc,
+            shard,
+            boot,
+            sessions: Sessions::new(alloc, limit),
+            live: Lives::new(alloc),
+            pending: Items::new(alloc),
+            store: Store::new(alloc),
+        }
+    }
+
+    /// A part that starts again with what an image has. No session is live, and the prepared ones are those of `pending`.
+    pub fn of(
+        alloc: Global,
+        shard: u16,
+        boot: u32,
+        store: Store,
+        sessions: Sessions,
+        pending: Pendings,
+    ) -> Participant
+        requires { Stands (record { shard = shard; boot = boot; sessions = sessions; live = []; pending = pending; store = store }) }
+        ensures { result ≡ record { shard = shard; boot = boot; sessions = sessions; live = []; pending = pending; store = store } }
+    {
+        Participant {
+            alloc,
+            shard,
+            boot,
+            sessions,
+            live: Lives::new(alloc),
+            pending,
+            store,
+        }
+    }
+
+    /// The session's newest transaction here.
+    pub fn session(&self, lsid: &Lsid) -> Option<&Session>
+        ensures { option_copied result ≡ session self.now lsid.now }
+    {
+        self.sessions.find(lsid)
+    }
+
+    /// Ends the session's live transaction with this cause. It takes no memory.
+    pub fn end_live(&mut self, lsid: &Lsid, cause: Cause)
+        requires { IsSomeAnd (session self.old lsid.now) (λ s. s.state ≡ Live) }
+        ensures { self.new ≡ end_live self.old lsid.now cause }
+    {
+        let _count = self.live.len();
+        match self.live.take_out(lsid) {
+            Some(live) => {
+                self.store.drop_txn(live.tag(), live.keys());
+                let state = SessionState::Aborted {
+                    cause,
+                    read_at: Ts(0),
+                };
+                self.sessions.end(lsid, state);
+                drop(live);
+            }
+            None => drop(cause),
+        }
+    }
+}

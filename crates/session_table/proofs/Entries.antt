@@ -1,0 +1,39 @@
+-- What a map by sessions holds, and the list of its entries.
+use Rattle.std.proofs.Common.{◌≡◌, Bool, true, false, cond, List, [], ◌∷◌, ◌++◌, find, Option, Some, None, IsSome, option_map, Result, Ok, Err, IsOk, OnOk, refl, ap, ◌∙◌, sym, subst, true≢false}
+use Rattle.std.specs.Map.{lookup, set_value}
+use Rattle.std.specs.Ordering.{eq_by_cmp}
+use Rattle.std.proofs.lemmas.Map.Views.{tells_apart}
+use Rattle.indexmap.specs.IndexMap.{insert_entry}
+use Rattle.txn_types.specs.BySession.{BySession, entry_of, with_entry}
+use Rattle.txn_types.specs.Order.{lsid_cmp, same_lsid}
+use Rattle.txn_types.specs.declared.node.Lsid.{Lsid}
+use Rattle.txn_types.proofs.Orders.{lsid_exact}
+
+found_case : {A : Type 0} (entry : Lsid × A) (entries : BySession A) (lsid : Lsid) (b : Bool) → same_lsid lsid entry.0 ≡ b
+    → lookup (eq_by_cmp lsid_cmp lsid) entries ≡ entry_of lsid entries → cond b (Some entry.1) (lookup (eq_by_cmp lsid_cmp lsid) entries) ≡ option_map (λ e. e.1) (cond b (Some entry) (find (λ e. same_lsid lsid e.0) entries))
+found_case entry entries lsid true is rest = refl
+found_case entry entries lsid false is rest = rest
+
+-- what a map finds
+pub found : {A : Type 0} (lsid : Lsid) (entries : BySession A) → lookup (eq_by_cmp lsid_cmp lsid) entries ≡ entry_of lsid entries
+found lsid [] = refl
+found lsid (entry ∷ entries) = found_case entry entries lsid (same_lsid lsid entry.0) refl (found lsid entries)
+
+put_case : {A : Type 0} (lsid : Lsid) (a : A) (entry : Lsid × A) (old new entries : BySession A) (b : Bool) → same_lsid lsid entry.0 ≡ b → old ≡ new
+    → cond b ((entry.0, a) ∷ entries) (entry ∷ old) ≡ cond b ((lsid, a) ∷ entries) (entry ∷ new)
+put_case lsid a entry old new entries true is rest = ap (λ (l : Lsid). (l, a) ∷ entries) (sym (tells_apart lsid_exact lsid entry.0 is))
+put_case lsid a entry old new entries false is rest = ap (λ (es : BySession _). entry ∷ es) rest
+
+-- what is put into a map
+pub put : {A : Type 0} (lsid : Lsid) (a : A) (entries : BySession A) → insert_entry (eq_by_cmp lsid_cmp) entries lsid a ≡ with_entry lsid a entries
+put lsid a [] = refl
+put lsid a (entry ∷ entries) = put_case lsid a entry (insert_entry (eq_by_cmp lsid_cmp) entries lsid a) (with_entry lsid a entries) entries (same_lsid lsid entry.0) refl (put lsid a entries)
+
+-- a map that has no entry under the session has none
+pub absent : {A : Type 0} (lsid : Lsid) (entries : BySession A) → lookup (eq_by_cmp lsid_cmp lsid) entries ≡ None → IsSome (entry_of lsid entries) → ⊥
+absent lsid entries none some = true≢false (sym (subst IsSome (sym (found lsid entries) ∙ none) some))
+
+-- what holds at Ok, of what is Ok
+pub on_ok : {T E : Type 0} (P : Type 0) (r : Result T E) → IsOk r → OnOk r P → P
+on_ok P (Ok t) is h = h
+on_ok P (Err e) is h = absurd (true≢false (sym is))
