@@ -200,20 +200,40 @@ fn put_refusal(out: &mut String, refusal: &OpErr) -> Result<(), AllocError> {
     }
 }
 
-/// What the operation answers and writes over the rows that stand, or why it is refused; all of it of copies.
-fn told(alloc: Global, op: &Op, own: &Writes) -> Result<String, AllocError> {
+/// What a statement that is done answers and writes, all of it of copies.
+fn done_text(alloc: Global, reply: &OpReply, writes: &Writes) -> Result<String, AllocError> {
     let mut out = String::new(alloc);
-    match eval(alloc, &op.copy(alloc)?, &[], &own.copy(alloc)?) {
-        Ok((reply, writes)) => {
-            put_reply(&mut out, &reply.copy(alloc)?)?;
-            for write in writes.as_slice() {
-                put_write(&mut out, &write.copy(alloc)?)?;
-            }
-        }
-        Err(EvalErr::Op(refusal)) => put_refusal(&mut out, &refusal.copy(alloc)?)?,
-        Err(EvalErr::Memory) => return Err(AllocError),
+    let reply = reply.copy(alloc)?;
+    put_reply(&mut out, &reply)?;
+    for write in writes.as_slice() {
+        let write = write.copy(alloc)?;
+        put_write(&mut out, &write)?;
     }
     Ok(out)
+}
+
+/// Why a statement is refused, of a copy.
+fn refusal_text(alloc: Global, refusal: &OpErr) -> Result<String, AllocError> {
+    let mut out = String::new(alloc);
+    let refusal = refusal.copy(alloc)?;
+    put_refusal(&mut out, &refusal)?;
+    Ok(out)
+}
+
+/// What the operation answers and writes over the rows that stand, or why it is refused.
+fn evaluated(alloc: Global, op: &Op, own: &Writes) -> Result<String, AllocError> {
+    match eval(alloc, op, &[], own) {
+        Ok((reply, writes)) => done_text(alloc, &reply, &writes),
+        Err(EvalErr::Op(refusal)) => refusal_text(alloc, &refusal),
+        Err(EvalErr::Memory) => Err(AllocError),
+    }
+}
+
+/// The same of copies of the operation and of the rows.
+fn told(alloc: Global, op: &Op, own: &Writes) -> Result<String, AllocError> {
+    let op = op.copy(alloc)?;
+    let own = own.copy(alloc)?;
+    evaluated(alloc, &op, &own)
 }
 
 /// What an insert of these ids is told.
@@ -254,6 +274,28 @@ fn reply_of(alloc: Global, op: &Op, own: &Writes) -> Result<OpReply, AllocError>
     }
 }
 
+/// The merged reply of these parts.
+fn merged_text(alloc: Global, op: &Op, parts: &[OpReply]) -> Result<String, AllocError> {
+    let mut out = String::new(alloc);
+    match merge(alloc, op, parts) {
+        Ok(reply) => {
+            put_reply(&mut out, &reply)?;
+            Ok(out)
+        }
+        Err(_) => Err(AllocError),
+    }
+}
+
+/// The replies of both shards.
+fn parts_of(alloc: Global, shards: &Shards, op: &Op) -> Result<Vec<OpReply>, AllocError> {
+    let mut parts = Vec::new(alloc);
+    let here = reply_of(alloc, op, &shards.here)?;
+    parts.push(here)?;
+    let beside = reply_of(alloc, op, &shards.beside)?;
+    parts.push(beside)?;
+    Ok(parts)
+}
+
 /// The merged reply of two shards to a find.
 pub fn merged(
     alloc: Global,
@@ -262,13 +304,6 @@ pub fn merged(
     order: &str,
 ) -> Result<String, AllocError> {
     let op = find(alloc, filter, order)?;
-    let mut parts = Vec::new(alloc);
-    parts.push(reply_of(alloc, &op, &shards.here)?)?;
-    parts.push(reply_of(alloc, &op, &shards.beside)?)?;
-    let mut out = String::new(alloc);
-    match merge(alloc, &op, parts.as_slice()) {
-        Ok(reply) => put_reply(&mut out, &reply)?,
-        Err(_) => return Err(AllocError),
-    }
-    Ok(out)
+    let parts = parts_of(alloc, shards, &op)?;
+    merged_text(alloc, &op, parts.as_slice())
 }
