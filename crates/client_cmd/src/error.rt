@@ -7,7 +7,7 @@ use crud_parse::CrudErr;
 use std::alloc::{AllocError, AllocFailed};
 
 /// Why a command isn't served.
-#[derive(Debug, Drop)]
+#[derive(Drop)]
 pub enum CmdErr {
     /// There is no such command, or it has a field of a kind of commands that aren't served yet.
     Unknown { name: Name },

@@ -1,7 +1,7 @@
 use txn_types::Op;
 
 /// What a client asks.
-#[derive(Debug, Drop)]
+#[derive(Drop)]
 pub enum Request {
     /// Whether the server is there.
     Ping,

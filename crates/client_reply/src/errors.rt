@@ -5,7 +5,7 @@ use crate::reply::Refusal;
 use txn_types::What;
 
 /// The errors that clients are told.
-#[derive(Clone, Copy, Debug, PartialEq, Eq)]
+#[derive(Clone, Copy, PartialEq, Eq)]
 pub enum Code {
     BadValue,
     FailedToParse,

@@ -2,7 +2,7 @@ use bson_core::Name;
 use txn_types::{Docs, Ns, OpErr};
 
 /// Why a request is refused before its statement is evaluated, or though it was.
-#[derive(Debug, Drop)]
+#[derive(Drop)]
 pub enum Refusal {
     /// No serial is left for a transaction to draw. Told as code 20, IllegalOperation, `no serial left`.
     Spent,
@@ -30,7 +30,7 @@ pub enum Refusal {
 }
 
 /// What a client is told.
-#[derive(Debug, Drop)]
+#[derive(Drop)]
 pub enum Reply {
     /// The server is there.
     Ping,

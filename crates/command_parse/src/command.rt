@@ -5,14 +5,14 @@ use bson_core::Name;
 use std::alloc::{AllocError, Global};
 
 /// A command that is read.
-#[derive(Clone, Copy, Debug, PartialEq, Eq)]
+#[derive(Clone, Copy, PartialEq, Eq)]
 pub enum Command {
     Ping,
     Statement(Statement),
 }
 
 /// A command that is an operation on a collection.
-#[derive(Clone, Copy, Debug, PartialEq, Eq)]
+#[derive(Clone, Copy, PartialEq, Eq)]
 pub enum Statement {
     Insert,
     Find,

@@ -7,14 +7,14 @@ use bson_core::Name;
 use std::alloc::{AllocError, Global};
 
 /// What the items of a list of changes do to the documents that match them.
-#[derive(Clone, Copy, Debug, PartialEq, Eq)]
+#[derive(Clone, Copy, PartialEq, Eq)]
 pub enum Change {
     Update,
     Delete,
 }
 
 /// The list of documents that a write has.
-#[derive(Clone, Copy, Debug, PartialEq, Eq)]
+#[derive(Clone, Copy, PartialEq, Eq)]
 pub enum Batch {
     /// Documents to insert.
     Documents,
@@ -23,7 +23,7 @@ pub enum Batch {
 }
 
 /// What a field of a command has to be.
-#[derive(Clone, Copy, Debug, PartialEq, Eq)]
+#[derive(Clone, Copy, PartialEq, Eq)]
 pub enum Rule {
     /// Anything: it isn't looked at.
     Ignored,
@@ -48,7 +48,7 @@ pub enum Rule {
 }
 
 /// What a field of an item has to be.
-#[derive(Clone, Copy, Debug, PartialEq, Eq)]
+#[derive(Clone, Copy, PartialEq, Eq)]
 pub enum ItemRule {
     /// A filter.
     Query,

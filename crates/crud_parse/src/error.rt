@@ -5,7 +5,7 @@ use bson_core::Name;
 use std::alloc::{AllocError, AllocFailed};
 
 /// Why a filter, an update or a statement isn't read. Each but `Memory` has the name at which it was met.
-#[derive(Debug, Drop)]
+#[derive(Drop)]
 pub enum CrudErr {
     /// The name begins with `$`, and is that of no operator that may stand there; or it stands beside operators and is
     /// none.

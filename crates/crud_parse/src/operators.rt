@@ -5,7 +5,7 @@ use sqlite_items::Items;
 use txn_types::{Cmp, Filter, UpdateKind};
 
 /// How the filters in a list go together.
-#[derive(Clone, Copy, Debug, PartialEq, Eq)]
+#[derive(Clone, Copy, PartialEq, Eq)]
 pub enum Junction {
     And,
     Or,
@@ -39,7 +39,7 @@ impl Junction {
 }
 
 /// What a filter asks of one field.
-#[derive(Clone, Copy, Debug, PartialEq, Eq)]
+#[derive(Clone, Copy, PartialEq, Eq)]
 pub enum Operator {
     /// It compares so with a value.
     Compare(Cmp),

@@ -6,7 +6,7 @@ use std::alloc::{AllocError, AllocFailed};
 use txn_types::OpErr;
 
 /// Why an update makes nothing of a document.
-#[derive(Clone, Copy, Debug, PartialEq, Eq)]
+#[derive(Clone, Copy, PartialEq, Eq)]
 pub enum ApplyErr {
     /// A number is to be added to a field that is none, or what is to be added is no number.
     NotNumber,
@@ -37,7 +37,7 @@ impl<T: Drop> From<AllocFailed<T>> for ApplyErr {
 }
 
 /// Why an operation isn't answered.
-#[derive(Debug, Drop)]
+#[derive(Drop)]
 pub enum EvalErr {
     /// It is refused.
     Op(OpErr),

@@ -22,7 +22,7 @@ use txn_types::{
 };
 
 /// How many rows an item met, and how many of them it changed.
-#[derive(Clone, Copy, Debug, PartialEq, Eq)]
+#[derive(Clone, Copy, PartialEq, Eq)]
 pub struct Met {
     pub n: u64,
     pub changed: u64,

@@ -12,7 +12,7 @@ use std::marker::Model;
 use txn_types::{Id, Ns};
 
 /// A namespace and the rows of its collection, rising by id. Each document has its row's id.
-#[derive(Debug, Drop)]
+#[derive(Drop)]
 pub struct Table {
     ns: Ns,
     rows: Vec<(Id, Doc)>,

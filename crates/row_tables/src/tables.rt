@@ -14,7 +14,7 @@ use std::alloc::{AllocError, Global};
 use txn_types::{Id, Ns, Write, Writes};
 
 /// The rows of all collections. A collection is found by going through all of them, a row in it by binary search.
-#[derive(Debug, Drop)]
+#[derive(Drop)]
 pub struct Tables {
     tables: Vec<Table>,
 }

@@ -6,7 +6,7 @@ use op_msg::{FrameErr, write_frame};
 use std::alloc::{AllocError, Global};
 
 /// What a message is answered.
-#[derive(Debug, Drop)]
+#[derive(Drop)]
 pub enum Answer {
     /// The bytes of a message.
     Reply(Bytes),

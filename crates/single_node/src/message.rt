@@ -15,7 +15,7 @@ const REQUEST_ID: usize = 4;
 const FLAGS: usize = 16;
 
 /// Why a message isn't served.
-#[derive(Debug, Drop)]
+#[derive(Drop)]
 pub enum Unserved {
     /// Its sender is told so.
     Told(Refusal),

@@ -4,7 +4,7 @@ use std::alloc::{AllocError, Global};
 use txn_types::{Op, OpErr, OpReply, Tag, Ts, Writes};
 
 /// A committed transaction: what it read at, when it committed, and what it wrote.
-#[derive(Debug, Drop)]
+#[derive(Drop)]
 pub struct Entry {
     pub tag: Tag,
     pub read_at: Ts,
@@ -28,7 +28,7 @@ impl Entry {
 
 /// A statement that was answered: its transaction, what it read at, its place in the transaction, counted from 1,
 /// what it asked and what it was told.
-#[derive(Debug, Drop)]
+#[derive(Drop)]
 pub struct Answered {
     pub tag: Tag,
     pub read_at: Ts,

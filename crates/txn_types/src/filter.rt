@@ -5,7 +5,7 @@ use sqlite_items::Items;
 use std::alloc::{AllocError, Global};
 
 /// A comparison.
-#[derive(Clone, Copy, Debug, PartialEq, Eq)]
+#[derive(Clone, Copy, PartialEq, Eq)]
 pub enum Cmp {
     Eq,
     Ne,
@@ -27,7 +27,7 @@ impl Cmp {
 pub type Filters = Items<Filter>;
 
 /// What a document is asked.
-#[derive(Debug, Drop)]
+#[derive(Drop)]
 pub enum Filter {
     /// All of these hold.
     And(Filters),

@@ -1,4 +1,11 @@
-ghost use Rattle.std.specs.Prelude.{◌≡◌, ◌↔◌, None, Some, IfOk, length};
+ghost use Rattle.std.specs.Prelude.{◌≡◌, ◌↔◌, None, Some, IfOk, length, refl};
+ghost use Rattle.std.specs.Cmp.{
+  partial_order_from_total,
+  eq_by_cmp_equiv,
+  partial_equiv_from_equiv,
+};
+ghost use Rattle.std.specs.Ordering.{eq_by_cmp, as_partial_cmp};
+ghost use Rattle.txn_types.specs.Totals.{id_is_total};
 ghost use Rattle.txn_types.specs.Ids.{id_of, id_in};
 ghost use Rattle.txn_types.specs.Order.{id_cmp, kind_of, number_of, length_of, subtype_of, content_of};
 ghost use Rattle.txn_types.specs.declared.id.IdErr.TheVariants.{Memory};
@@ -9,7 +16,7 @@ use std::cmp::Ordering;
 
 /// The value of a document's `_id`: of the kinds of values, a number, a text, a binary, an object id, a truth value or
 /// a moment. An int32 and an int64 of one value are one id.
-#[derive(Debug, Drop)]
+#[derive(Drop)]
 pub enum Id {
     Num(i64),
     Text(Text),
@@ -22,7 +29,7 @@ pub enum Id {
 }
 
 /// Why a value is no id.
-#[derive(Clone, Copy, Debug, PartialEq, Eq)]
+#[derive(Clone, Copy, PartialEq, Eq)]
 pub enum IdErr {
     /// Its kind is none that an id may have: a document, a list, null or a timestamp.
     BadId,
@@ -150,5 +157,44 @@ impl Id {
             Id::Bool(flag) => Ok(Id::Bool(*flag)),
             Id::Date(moment) => Ok(Id::Date(*moment)),
         }
+    }
+}
+
+impl PartialEq for Id {
+    ghost eq = { eq_by_cmp id_cmp };
+
+    ghost laws = { partial_equiv_from_equiv (eq_by_cmp_equiv id_is_total) };
+
+    fn eq(&self, other: &Id) -> bool {
+        self.compare(other).is_eq()
+    }
+}
+
+impl Eq for Id {
+    ghost laws = { eq_by_cmp_equiv id_is_total };
+}
+
+impl PartialOrd for Id {
+    ghost partial_cmp = { as_partial_cmp id_cmp };
+
+    ghost laws = { partial_order_from_total id_is_total };
+
+    fn partial_cmp(&self, other: &Id) -> Option<Ordering> {
+        Some(self.compare(other))
+    }
+}
+
+/// The order of `compare`, for maps by id.
+impl Ord for Id {
+    ghost cmp = { id_cmp };
+
+    ghost total = { id_is_total };
+
+    ghost matches_partial_cmp = { λ x y. refl };
+
+    ghost matches_eq = { λ x y. refl };
+
+    fn cmp(&self, other: &Id) -> Ordering {
+        self.compare(other)
     }
 }

@@ -2,12 +2,22 @@ ghost use Rattle.std.specs.Prelude.{◌≡◌, ◌↔◌, ◌==◌, ◌&&◌, If
 ghost use Rattle.std.specs.List.{list_all};
 ghost use Rattle.txn_types.specs.Names.{is_name_byte, is_database, is_collection, namespace_of, IsNamespace};
 ghost use Rattle.txn_types.specs.declared.names.NsErr.TheVariants.{Memory};
+ghost use Rattle.std.specs.Prelude.{refl};
+ghost use Rattle.std.specs.Cmp.{
+  partial_order_from_total,
+  eq_by_cmp_equiv,
+  partial_equiv_from_equiv,
+};
+ghost use Rattle.std.specs.Cmp.Lexicographic.{slice_cmp};
+ghost use Rattle.std.specs.Ordering.{nat_cmp, eq_by_cmp, as_partial_cmp};
+ghost use Rattle.std.proofs.lemmas.Cmp.{nat_list_cmp_total};
 
 use std::alloc::{AllocError, AllocFailed, Global};
+use std::cmp::Ordering;
 use std::marker::Model;
 
 /// The tag of a transaction: the router that began it, that router's boot, and the serial that it drew.
-#[derive(Clone, Copy, Debug, PartialEq, Eq)]
+#[derive(Clone, Copy, PartialEq, Eq)]
 pub struct Tag {
     pub router: u16,
     pub boot: u32,
@@ -23,7 +33,7 @@ impl Tag {
 }
 
 /// Why two names make no namespace.
-#[derive(Clone, Copy, Debug, PartialEq, Eq)]
+#[derive(Clone, Copy, PartialEq, Eq)]
 pub enum NsErr {
     /// The first is no name of a database: 1 to 63 bytes, none below 0x21, no 0x7F, no `$` and no full stop.
     Database,
@@ -50,7 +60,7 @@ impl<T: Drop> From<AllocFailed<T>> for NsErr {
 }
 
 /// A namespace: a database name, a full stop and a collection name, in UTF-8. Contracts see its bytes.
-#[derive(Debug, Drop)]
+#[derive(Drop)]
 pub struct Ns {
     text: String,
 }
@@ -152,5 +162,44 @@ impl Ns {
         Ok(Ns {
             text: String::from_str(alloc, self.text.as_str())?,
         })
+    }
+}
+
+impl PartialEq for Ns {
+    ghost eq = { eq_by_cmp (slice_cmp nat_cmp) };
+
+    ghost laws = { partial_equiv_from_equiv (eq_by_cmp_equiv nat_list_cmp_total) };
+
+    fn eq(&self, other: &Ns) -> bool {
+        self.cmp(other).is_eq()
+    }
+}
+
+impl Eq for Ns {
+    ghost laws = { eq_by_cmp_equiv nat_list_cmp_total };
+}
+
+impl PartialOrd for Ns {
+    ghost partial_cmp = { as_partial_cmp (slice_cmp nat_cmp) };
+
+    ghost laws = { partial_order_from_total nat_list_cmp_total };
+
+    fn partial_cmp(&self, other: &Ns) -> Option<Ordering> {
+        Some(self.cmp(other))
+    }
+}
+
+/// Namespaces stand in the order of their bytes.
+impl Ord for Ns {
+    ghost cmp = { slice_cmp nat_cmp };
+
+    ghost total = { nat_list_cmp_total };
+
+    ghost matches_partial_cmp = { λ x y. refl };
+
+    ghost matches_eq = { λ x y. refl };
+
+    fn cmp(&self, other: &Ns) -> Ordering {
+        self.as_slice().cmp(other.as_slice())
     }
 }

@@ -12,7 +12,7 @@ use std::alloc::{AllocError, Global};
 use std::marker::Model;
 
 /// A document to insert, and its place in the command.
-#[derive(Debug, Drop)]
+#[derive(Drop)]
 pub struct InsertItem {
     pub index: u32,
     pub doc: Doc,
@@ -30,7 +30,7 @@ impl InsertItem {
 }
 
 /// The documents of an insert, in their order. Each has an `_id` that is an id.
-#[derive(Debug, Drop)]
+#[derive(Drop)]
 pub struct InsertItems {
     items: Vec<InsertItem>,
 }
@@ -90,7 +90,7 @@ impl InsertItems {
 
 /// A filter, and what is done to the documents that match it: to all of them, or to the one of the least id. `index` is
 /// the item's place in the command.
-#[derive(Debug, Drop)]
+#[derive(Drop)]
 pub struct UpdateItem {
     pub index: u32,
     pub filter: Filter,
@@ -127,7 +127,7 @@ pub fn copy_update_items(alloc: Global, items: &UpdateItems) -> Result<UpdateIte
 
 /// A filter whose documents are deleted: all of them, or the one of the least id. `index` is the item's place in the
 /// command.
-#[derive(Debug, Drop)]
+#[derive(Drop)]
 pub struct DeleteItem {
     pub index: u32,
     pub filter: Filter,
@@ -161,7 +161,7 @@ pub fn copy_delete_items(alloc: Global, items: &DeleteItems) -> Result<DeleteIte
 }
 
 /// A statement's operation on one collection.
-#[derive(Debug, Drop)]
+#[derive(Drop)]
 pub enum Op {
     Insert {
         ns: Ns,
@@ -240,7 +240,7 @@ fn copy_cut(alloc: Global, cut: &Option<Id>) -> Result<Option<Id>, AllocError>
 }
 
 /// What an operation is answered.
-#[derive(Debug, Drop)]
+#[derive(Drop)]
 pub enum OpReply {
     /// How many documents it met, and how many of them it changed. Both stand still at 2^63 - 1.
     Count { n: u64, modified: u64 },
@@ -266,7 +266,7 @@ impl OpReply {
 }
 
 /// Why an operation is refused.
-#[derive(Clone, Copy, Debug, PartialEq, Eq)]
+#[derive(Clone, Copy, PartialEq, Eq)]
 pub enum What {
     /// A document of this id stands.
     Duplicate,
@@ -289,7 +289,7 @@ impl What {
 }
 
 /// The refusal of an operation: the item's place in the command, the document's id, and why.
-#[derive(Debug, Drop)]
+#[derive(Drop)]
 pub struct OpErr {
     pub index: u32,
     pub id: Id,

@@ -1,4 +1,4 @@
-ghost use Rattle.std.specs.Prelude.{◌≡◌, ◌≤◌, ◌<◌, ◌+◌, ◌-◌, ◌^◌, ◌↔◌, ℕ, max, IfOk, OnErr};
+ghost use Rattle.std.specs.Prelude.{◌≡◌, ◌≢◌, ◌≤◌, ◌<◌, ◌+◌, ◌-◌, ◌^◌, ◌↔◌, ℕ, max, IfOk, OnOk, OnErr};
 ghost use Rattle.txn_types.specs.Clock.{next_time, wanted_ceiling};
 
 use std::marker::Model;
@@ -29,7 +29,7 @@ pub enum ClockErr {
 
 /// A hybrid logical clock: the last time that it told, and a ceiling that no time passes before the ceiling is
 /// raised, so that it may be made durable first.
-#[derive(Clone, Copy, Debug, PartialEq, Eq)]
+#[derive(Clone, Copy, PartialEq, Eq)]
 pub struct HybridClock {
     pub last: Ts,
     pub ceiling: Ts,
@@ -69,6 +69,24 @@ impl HybridClock {
         }
         self.last = Ts(next);
         Ok(Ts(next))
+    }
+
+    /// Moves on to a time that was told elsewhere; the clock never moves back. It takes no memory.
+    pub fn advance(&mut self, to: Ts) -> Result<(), ClockErr>
+        ensures ok { OnOk result ((self.new.last ≡ max self.old.last to) × (self.new.ceiling ≡ self.old.ceiling)) }
+        ensures err { OnErr result (self.new ≡ self.old) }
+        ensures end { result ≢ Err ClockErr.ClockEnd }
+        ensures ceiling { (bound : ℕ) → (result ≡ Err (ClockErr.NeedCeiling bound)) ↔ ((self.old.ceiling < to) × (bound ≡ wanted_ceiling to)) }
+    {
+        if to.0 > self.ceiling.0 {
+            return Err(ClockErr::NeedCeiling {
+                bound: Ts(to.0.saturating_add(LEAD)),
+            });
+        }
+        if self.last.0 < to.0 {
+            self.last = to;
+        }
+        Ok(())
     }
 
     /// Lets the clock go on up to `bound`; a ceiling never falls.

@@ -5,7 +5,7 @@ use sqlite_items::Items;
 use std::alloc::{AllocError, Global};
 
 /// What is done to a field.
-#[derive(Clone, Copy, Debug, PartialEq, Eq)]
+#[derive(Clone, Copy, PartialEq, Eq)]
 pub enum UpdateKind {
     /// It gets the value, at its place, or behind the others where it isn't there.
     Set,
@@ -24,7 +24,7 @@ impl UpdateKind {
 }
 
 /// What is done to one field of a document.
-#[derive(Debug, Drop)]
+#[derive(Drop)]
 pub struct UpdateOp {
     pub kind: UpdateKind,
     pub name: Name,
@@ -48,7 +48,7 @@ impl UpdateOp {
 pub type UpdateOps = Items<UpdateOp>;
 
 /// What is done to a document.
-#[derive(Debug, Drop)]
+#[derive(Drop)]
 pub enum Update {
     /// This document takes its place, under the old `_id`.
     Replace(Doc),

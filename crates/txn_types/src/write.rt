@@ -8,7 +8,7 @@ use std::alloc::{AllocError, Global};
 use std::marker::Model;
 
 /// What a transaction does to one document.
-#[derive(Debug, Drop)]
+#[derive(Drop)]
 pub enum Write {
     /// The document stands, in place of one of this id.
     Put { ns: Ns, id: Id, doc: Doc },
@@ -35,7 +35,7 @@ impl Write {
 }
 
 /// Writes, in their order. The id of each document that is put is the document's `_id`.
-#[derive(Debug, Drop)]
+#[derive(Drop)]
 pub struct Writes {
     writes: Vec<Write>,
 }
