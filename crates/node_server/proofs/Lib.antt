@@ -1,0 +1,4 @@
+pub mod Bytes
+pub mod Courses
+pub mod Fetching
+pub mod Steps
