@@ -7,3 +7,4 @@ pub mod Ordered
 pub mod Tags
 pub mod Keys
 pub mod Moving
+pub mod Commits

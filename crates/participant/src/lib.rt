@@ -1,12 +1,15 @@
 //! A shard's part in transactions: statements, commit, prepare, decision, abort, recovery and expiry.
 #![tactic(auto)]
 
+mod clock;
+mod committing;
 mod ending;
 mod key;
 pub mod laws;
 mod lives;
 mod merging;
 mod part;
+mod preparing;
 mod said;
 mod touching;
 

@@ -10,7 +10,7 @@ use crate::said::Open;
 use std::alloc::{AllocFailed, Global};
 use std::collections::BTreeMap;
 use std::marker::Model;
-use txn_types::{Lsid, Tag};
+use txn_types::{Lsid, Tag, Ts, Writes};
 use version_store::{Key, Keys};
 
 /// What a live transaction has, and the keys that it wrote.
@@ -63,10 +63,12 @@ impl Live {
         self.keys.as_slice()
     }
 
-    pub fn into_open(self) -> Open
-        ensures { result ≡ self }
+    /// Its tag, its read timestamp and what it wrote.
+    pub fn into_written(self) -> (Tag, Ts, Writes)
+        ensures { result ≡ (self.tag, self.read_at, self.writes) }
     {
-        self.held
+        let held = self.held;
+        (held.tag, held.read_at, held.writes)
     }
 }
 
