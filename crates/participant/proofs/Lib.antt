@@ -8,3 +8,5 @@ pub mod Tags
 pub mod Keys
 pub mod Moving
 pub mod Commits
+pub mod Votes
+pub mod Merges

@@ -1,4 +1,4 @@
-ghost use Rattle.std.specs.Prelude.{◌≡◌, ◌≤◌, ◌⊎◌, unwrap_or};
+ghost use Rattle.std.specs.Prelude.{◌≡◌, ◌≤◌, ◌⊎◌, nat_eq, unwrap_or};
 ghost use Rattle.txn_types.specs.Clock.{last_time, next_time, ticked};
 
 use txn_types::{HybridClock, Ts};
@@ -14,4 +14,11 @@ pub fn next_tick(clock: &mut HybridClock, wall: u32) -> Option<Ts>
         Ok(at) => Some(at),
         Err(_end) => None,
     }
+}
+
+/// Whether the clock stands at the last time that there is.
+pub fn is_at_end(clock: &HybridClock) -> bool
+    ensures { result ≡ nat_eq clock.now.last last_time }
+{
+    clock.last.0 == u64::MAX
 }

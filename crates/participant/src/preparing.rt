@@ -11,7 +11,7 @@ ghost use Rattle.participant.specs.Part.{session, open_of, ended, is_replaced};
 ghost use Rattle.participant.specs.Prepare.{prepare, prepares_live, prepares_open, vetoes};
 ghost use Rattle.participant.specs.Stands.{pending_of};
 
-use crate::clock::next_tick;
+use crate::clock::{is_at_end, next_tick};
 use crate::merging::copied_keys;
 use crate::part::Participant;
 use crate::said::{PartErr, Voted};
@@ -158,7 +158,7 @@ impl Participant {
         ensures ceiling { clock.new.ceiling ≡ clock.old.ceiling }
         ensures err { OnErr result ((self.new ≡ self.old) × (clock.new ≡ clock.old)) }
     {
-        if clock.last.0 == u64::MAX {
+        if is_at_end(clock) {
             let last = clock.last;
             return Ok(self.veto(m, Cause::ClockEnd { last }, Cause::ClockEnd { last }));
         }
