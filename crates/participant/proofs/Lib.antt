@@ -10,3 +10,4 @@ pub mod Moving
 pub mod Commits
 pub mod Votes
 pub mod Merges
+pub mod Expiries

@@ -1,6 +1,6 @@
 -- What the calls of a shard's part need of it, and keep: of all that belongs to a part, the keys of the transactions that
 -- are live, and that each open one is of one session.
-use Rattle.std.specs.Prelude.{◌≡◌, Bool, true, false, List, [], ◌∷◌, map, Option, Some, None}
+use Rattle.std.specs.Prelude.{◌≡◌, ◌-◌, ℕ, nat_lt, Bool, true, false, List, [], ◌∷◌, map, Option, Some, None}
 use Rattle.txn_types.specs.Order.{same_tag, same_lsid}
 use Rattle.txn_types.specs.declared.node.Lsid.{Lsid}
 use Rattle.txn_types.specs.declared.write.Write.{Write}
@@ -11,6 +11,7 @@ use Rattle.session_table.specs.declared.session.SessionState.TheVariants as stat
 use Rattle.version_store.specs.Versions.{Versions, keys_of}
 use Rattle.version_store.specs.declared.version.Pending.{Pending}
 use Rattle.participant.specs.declared.said.Open.{Open}
+use Rattle.participant.specs.Expiry.{lifetime}
 use Rattle.participant.specs.Part.{Part, session, open_of, is_open}
 
 -- a live transaction has something here, and its versions are of the documents that it wrote; no other has
@@ -43,3 +44,7 @@ has_writes (Some o) = has_written o.writes
 -- what stands among the prepared transactions for one that was live
 abbrev pub pending_of : Lsid → Open → Pending
 pending_of lsid o = record { tag = o.tag; lsid = lsid; read_at = o.read_at; keys = map place_of o.writes }
+
+-- whether a live transaction is too old
+abbrev pub is_older : ℕ → Lsid × Open → Bool
+is_older wall entry = nat_lt lifetime (wall - entry.1.begun)

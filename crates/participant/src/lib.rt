@@ -4,6 +4,7 @@
 mod clock;
 mod committing;
 mod ending;
+mod expiring;
 mod key;
 pub mod laws;
 mod lives;
