@@ -1,1 +1,9 @@
 pub mod Chained
+pub mod Keyed
+pub mod Nested
+pub mod Histories
+pub mod Documents
+pub mod Groups
+pub mod Whole
+pub mod TakenBack
+pub mod Written

@@ -1,8 +1,9 @@
 -- The versions of one document as a store keeps them, and the documents of one namespace.
-use Rattle.std.specs.Prelude.{◌≡◌, ℕ, Bool, true, false, filter, List, [], ◌∷◌, map, is_some, unwrap_or, Option, Some, None, if◌then◌else◌}
+use Rattle.std.specs.Prelude.{◌≡◌, ℕ, Bool, true, false, List, [], ◌∷◌, map, filter, is_some, unwrap_or, Option, Some, None, if◌then◌else◌}
 use Rattle.std.specs.Map.{lookup}
 use Rattle.std.specs.BTreeMap.{is_at}
-use Rattle.std.specs.Ordering.{is_eq}
+use Rattle.std.specs.Cmp.Lexicographic.{slice_cmp}
+use Rattle.std.specs.Ordering.{is_eq, nat_cmp}
 use Rattle.std.specs.declared.cmp.Ordering.{Ordering}
 use Rattle.bson_core.specs.Fields.{Document}
 use Rattle.txn_types.specs.Order.{id_cmp}
@@ -34,24 +35,25 @@ begins tag (version ∷ versions) = is_of tag version
 abbrev pub IsHistory : List Version → Type 0
 IsHistory versions = (is_some (first versions) ≡ true) × IsChain versions
 
--- such versions stand under each key
-abbrev pub AreHistories : {K : Type 0} → List (K × List Version) → Type 0
-AreHistories [] = Unit {0}
-AreHistories (row ∷ rows) = IsHistory row.1 × AreHistories rows
+-- what stands under each key is such
+abbrev pub Each : {K V : Type 0} → (V → Type 0) → List (K × V) → Type 0
+Each P [] = Unit {0}
+Each P (row ∷ rows) = P row.1 × Each P rows
 
 -- the documents of a namespace: the ids rise, each with its versions
 pub record IsCollection (rows : List (Id × List Version)) : Type 0 where
   pub rises : Rises id_cmp rows
-  pub histories : AreHistories rows
+  pub histories : Each IsHistory rows
 
-abbrev pub AreCollections : List (List ℕ × List (Id × List Version)) → Type 0
-AreCollections [] = Unit {0}
-AreCollections (group ∷ groups) = IsCollection group.1 × AreCollections groups
+-- the namespaces rise, each with its documents
+pub record AreCollections (groups : List (List ℕ × List (Id × List Version))) : Type 0 where
+  pub rises : Rises (slice_cmp nat_cmp) groups
+  pub collections : Each IsCollection groups
 
 -- what a store keeps: the keys rise, each has a version, and all versions of a key but the first are committed
 pub record IsKept (store : Versions) : Type 0 where
   pub rises : Rises place_cmp store
-  pub histories : AreHistories store
+  pub histories : Each IsHistory store
 
 -- the versions under a key
 abbrev pub versions_at : {K : Type 0} → (K → K → Ordering) → K → List (K × List Version) → List Version

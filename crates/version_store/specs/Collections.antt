@@ -1,5 +1,5 @@
 -- What a scan looks at in the documents of one namespace.
-use Rattle.std.specs.Prelude.{ℕ, List, filter, Option, Some, None, option_map, Result}
+use Rattle.std.specs.Prelude.{ℕ, List, filter, option_map, Result}
 use Rattle.std.specs.List.{filter_map}
 use Rattle.std.specs.Map.{lookup}
 use Rattle.std.specs.BTreeMap.{is_at}

@@ -2,4 +2,5 @@ pub mod Versions
 pub mod Nested
 pub mod Chains
 pub mod Collections
+pub mod TakenBack
 pub mod Refusals

@@ -4,6 +4,7 @@ ghost use Rattle.std.specs.Option.{option_copied};
 ghost use Rattle.txn_types.specs.Order.{same_tag};
 ghost use Rattle.version_store.specs.Versions.{first, without, restamped, holder_of, holder, is_of, is_committed_by, seen, other_writer_of, newest_of, against, writer_of, commit_of};
 ghost use Rattle.version_store.specs.Chains.{begins};
+ghost use Rattle.version_store.specs.TakenBack.{put_back};
 ghost use Rattle.version_store.specs.declared.version.Version.{Version};
 
 use crate::version::{Stamp, Version};
@@ -60,7 +61,8 @@ fn is_committed_by(at: Ts, version: &Version) -> bool
     }
 }
 
-/// Another transaction that prepared the version, and its prepare timestamp, where that is at or below the moment.
+/// Another transaction that prepared the version, and its prepare timestamp, where that is at or
+/// below the moment.
 fn holder_of(at: Ts, tag: &Tag, stamp: &Stamp) -> Option<(Tag, Ts)>
     ensures { result ≡ holder_of at tag.now stamp.now }
 {
@@ -88,7 +90,7 @@ pub fn holder(at: Ts, tag: &Tag, versions: &[Version]) -> Option<(Tag, Ts)>
 }
 
 /// The transaction's own version.
-fn own<'a>(tag: &Tag, versions: &'a [Version]) -> Option<&'a Version>
+pub fn own<'a>(tag: &Tag, versions: &'a [Version]) -> Option<&'a Version>
     ensures { option_copied result ≡ find (is_of tag.now) versions.now }
 {
     for version in versions {
@@ -250,6 +252,15 @@ impl Chain {
         match self.versions.insert(0, version) {
             Ok(()) => Ok(()),
             Err(failed) => Err(failed.value),
+        }
+    }
+
+    /// Puts a version in place of the transaction's own one, where it has one.
+    pub fn put_back(&mut self, tag: &Tag, version: Version)
+        ensures { self.new ≡ put_back tag.now version self.old }
+    {
+        if begins(tag, self.versions.as_slice()) {
+            self.versions[0] = version;
         }
     }
 

@@ -53,7 +53,8 @@ impl Key {
         (self.ns, self.id)
     }
 
-    /// Where the key stands beside another: by the bytes of the namespace, and then by id. It takes no memory.
+    /// Where the key stands beside another: by the bytes of the namespace, and then by id. It takes
+    /// no memory.
     pub fn compare(&self, other: &Key) -> Ordering
         ensures { result ≡ place_cmp self.now other.now }
     {

@@ -1,10 +1,11 @@
-//! Versions of documents: of each document what was committed, newest first, and what a transaction that isn't finished
-//! has written.
+//! Versions of documents: of each document what was committed, newest first, and what a transaction
+//! that isn't finished has written.
 #![tactic(auto)]
 
 mod chain;
 mod collection;
 mod key;
+mod laid;
 mod refusal;
 mod store;
 mod version;

@@ -1,3 +1,4 @@
+ghost use Rattle.std.specs.Prelude.{◌≡◌};
 ghost use Rattle.version_store.specs.declared.refusal.ScanErr.TheVariants.{Memory};
 
 use crate::version::Held;

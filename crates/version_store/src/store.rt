@@ -1,32 +1,73 @@
 ghost use Rattle.std.specs.Prelude.{
-    ◌≡◌, [], ◌∷◌, Ok, Err, Some, None, IfOk, IfErr, OnOk, OnErr, map,
+  ◌≡◌,
+  [],
+  ◌∷◌,
+  ◌++◌,
+  find,
+  Ok,
+  Err,
+  Some,
+  None,
+  IfOk,
+  IfErr,
+  OnOk,
+  OnErr,
+  map,
 };
 ghost use Rattle.std.specs.List.{filter_map};
 ghost use Rattle.std.specs.Option.{option_copied};
 ghost use Rattle.txn_semantics.specs.Keyed.{put};
 ghost use Rattle.txn_semantics.specs.Writes.{place_of, place_cmp};
 ghost use Rattle.version_store.specs.Versions.{
-    first, other_writer_of, versions_of, without, restamped, read, scan, newest, against, with_write,
-    content_of, prepared, decided, dropped, keys_of,
+  first,
+  other_writer_of,
+  versions_of,
+  without,
+  restamped,
+  read,
+  scan,
+  newest,
+  against,
+  with_write,
+  with_writes,
+  is_of,
+  content_of,
+  prepared,
+  decided,
+  dropped,
+  keys_of,
 };
 ghost use Rattle.version_store.specs.Chains.{
-    write_of, IsKept, changed_at, changed_under, with_versions,
+  write_of,
+  IsKept,
+  changed_at,
+  changed_under,
+  with_versions,
+};
+ghost use Rattle.version_store.specs.TakenBack.{
+  AreFree,
+  put_back,
+  laid_by,
+  taken_back,
+  all_taken_back,
 };
 ghost use Rattle.version_store.specs.Refusals.{IsRefused, IsHeld};
 
-use crate::chain::{against, holder, newest_of, seen};
+use crate::chain::{against, holder, newest_of, own, seen};
 use crate::collection::Collection;
-use crate::key::Key;
+use crate::key::{Key, Keys};
+use crate::laid::Laid;
 use crate::refusal::{PutErr, ScanErr};
 use crate::version::{Stamp, Version};
 use bson_core::Doc;
-use std::alloc::Global;
+use sqlite_items::Items;
+use std::alloc::{AllocError, Global};
 use std::collections::BTreeMap;
 use std::marker::Model;
-use txn_types::{Id, Ns, Tag, Ts, Write};
+use txn_types::{By, Id, Ns, Tag, Ts, Write};
 
-/// The versions of all documents. Contracts see them by key: the keys rise, each has a version, and all versions of a
-/// key but the first are committed.
+/// The versions of all documents. Contracts see them by key: the keys rise, each has a version, and
+/// all versions of a key but the first are committed.
 #[derive(Drop)]
 pub struct Store {
     alloc: Global,
@@ -99,13 +140,7 @@ impl Store {
     }
 
     /// The document that the transaction sees there, or who holds it. It takes no memory.
-    pub fn read(
-        &self,
-        ns: &Ns,
-        id: &Id,
-        at: Ts,
-        tag: Tag,
-    ) -> Result<Option<&Doc>, (Tag, Ts)>
+    pub fn read(&self, ns: &Ns, id: &Id, at: Ts, tag: Tag) -> Result<Option<&Doc>, (Tag, Ts)>
         ensures ok { IfOk result (λ doc. read self.now (ns.now, id.now) at tag ≡ Ok (option_copied doc)) }
         ensures held { IfErr result (λ h. read self.now (ns.now, id.now) at tag ≡ Err h) }
     {
@@ -123,7 +158,26 @@ impl Store {
         newest_of(self.versions(ns, id))
     }
 
-    /// The rows that the transaction sees of the touched ids of a namespace, all of them where there are none.
+    /// What stands against a write of the transaction there. It takes no memory.
+    pub fn against(&self, ns: &Ns, id: &Id, at: Ts, tag: Tag) -> Option<By>
+        ensures { result ≡ against at tag (versions_of self.now (ns.now, id.now)) }
+    {
+        against(at, &tag, self.versions(ns, id))
+    }
+
+    /// The keys of the documents with a version of the transaction, in their order.
+    pub fn keys(&self, tag: Tag) -> Result<Keys, AllocError>
+        ensures { IfOk result (λ keys. keys ≡ keys_of tag self.now) }
+    {
+        let mut keys = Vec::new(self.alloc);
+        for (ns, collection) in &self.collections {
+            collection.add_keys(self.alloc, ns, &tag, &mut keys)?;
+        }
+        Ok(Items::from_vec(keys))
+    }
+
+    /// The rows that the transaction sees of the touched ids of a namespace, all of them where
+    /// there are none.
     pub fn scan(
         &self,
         ns: &Ns,
@@ -167,13 +221,7 @@ impl Store {
     }
 
     /// Puts a version of the transaction where no other one has a version.
-    fn lay(
-        &mut self,
-        tag: &Tag,
-        ns: Ns,
-        id: Id,
-        version: Version,
-    ) -> Result<(), (Ns, Id, Version)>
+    fn lay(&mut self, tag: &Tag, ns: Ns, id: Id, version: Version) -> Result<(), (Ns, Id, Version)>
         requires { first (filter_map (other_writer_of tag.now) (versions_of self.old (ns, id))) ≡ None }
         ensures ok { OnOk result (self.new ≡ put place_cmp (ns, id) (version ∷ without tag.now (versions_of self.old (ns, id))) self.old) }
         ensures back { IfErr result (λ e. e ≡ (ns, id, version)) }
@@ -186,10 +234,10 @@ impl Store {
                 Err((id, version)) => Err((ns, id, version)),
             };
         }
-        let mut collection = Collection::new(alloc);
-        if let Err((id, version)) = collection.put(alloc, tag, id, version) {
-            return Err((ns, id, version));
-        }
+        let collection = match Collection::of(alloc, tag, id, version) {
+            Ok(collection) => collection,
+            Err((id, version)) => return Err((ns, id, version)),
+        };
         match self.collections.insert(ns, collection) {
             Ok(_old) => Ok(()),
             Err(failed) => {
@@ -197,6 +245,93 @@ impl Store {
                 let (id, version) = collection.into_only().unwrap();
                 Err((ns, id, version))
             }
+        }
+    }
+
+    /// Puts copies of all writes of the transaction, or none: where there is no memory, nothing has
+    /// changed.
+    pub fn put_all(&mut self, tag: Tag, writes: &[Write]) -> Result<(), AllocError>
+        requires { AreFree tag self.old writes.now }
+        ensures ok { OnOk result (self.new ≡ with_writes tag self.old writes.now) }
+        ensures err { OnErr result (self.new ≡ self.old) }
+    {
+        let mut laid = Vec::new(self.alloc);
+        for write in writes {
+            match self.lay_copy(&tag, write, &mut laid) {
+                Ok(()) => {}
+                Err(e) => {
+                    self.take_all_back(&tag, laid);
+                    return Err(e);
+                }
+            }
+        }
+        Ok(())
+    }
+
+    /// Puts a copy of a write of the transaction where no other one has a version, and adds what it
+    /// replaced.
+    fn lay_copy(&mut self, tag: &Tag, write: &Write, laid: &mut Vec<Laid>) -> Result<(), AllocError>
+        requires { first (filter_map (other_writer_of tag.now) (versions_of self.old (place_of write.now))) ≡ None }
+        ensures ok { OnOk result (self.new ≡ with_write tag.now self.old write.now) }
+        ensures laid { OnOk result (laid.new.items ≡ laid.old.items ++ laid_by tag.now self.old write.now ∷ []) }
+        ensures err { OnErr result (self.new ≡ self.old) }
+        ensures left { OnErr result (laid.new.items ≡ laid.old.items) }
+    {
+        let (ns, id, doc) = split(write.copy(self.alloc)?);
+        let key = Key::new(ns.copy(self.alloc)?, id.copy(self.alloc)?);
+        let replaced = self.own_copy(tag, &ns, &id)?;
+        let version = Version {
+            stamp: Stamp::Unfinished(*tag),
+            doc,
+        };
+        let before = laid.len();
+        laid.push(Laid { key, replaced })?;
+        match self.lay(tag, ns, id, version) {
+            Ok(()) => Ok(()),
+            Err(_) => {
+                laid.truncate(before);
+                Err(AllocError)
+            }
+        }
+    }
+
+    /// A copy of the transaction's own version of a document.
+    fn own_copy(&self, tag: &Tag, ns: &Ns, id: &Id) -> Result<Option<Version>, AllocError>
+        ensures { IfOk result (λ v. v ≡ find (is_of tag.now) (versions_of self.now (ns.now, id.now))) }
+    {
+        match own(tag, self.versions(ns, id)) {
+            Some(version) => Ok(Some(version.copy(self.alloc)?)),
+            None => Ok(None),
+        }
+    }
+
+    /// Takes back all writes that were put, the last one first.
+    fn take_all_back(&mut self, tag: &Tag, laid: Vec<Laid>)
+        ensures { self.new ≡ all_taken_back tag.now laid.items self.old }
+    {
+        let mut left = laid;
+        while let Some(last) = left.pop() {
+            self.take_back(tag, last);
+        }
+    }
+
+    /// Takes back a write that was put.
+    fn take_back(&mut self, tag: &Tag, laid: Laid)
+        ensures { self.new ≡ taken_back tag.now laid self.old }
+    {
+        let Laid { key, replaced } = laid;
+        match replaced {
+            Some(version) => self.put_back_at(tag, &key, version),
+            None => self.take_out_at(tag, &key),
+        }
+    }
+
+    /// Puts a version in place of the transaction's own one under a key, where it has one.
+    fn put_back_at(&mut self, tag: &Tag, key: &Key, version: Version)
+        ensures { self.new ≡ changed_at place_cmp (put_back tag.now version) key.now self.old }
+    {
+        if let Some(collection) = self.collections.get_mut(key.ns()) {
+            collection.put_back(tag, key.id(), version);
         }
     }
 
@@ -229,7 +364,8 @@ impl Store {
         }
     }
 
-    /// Ends the transaction: its versions become commits at this time, or are taken out. It takes no memory.
+    /// Ends the transaction: its versions become commits at this time, or are taken out. It takes
+    /// no memory.
     pub fn decide(&mut self, tag: Tag, keys: &[Key], at: Option<Ts>)
         requires { keys.now ≡ keys_of tag self.old }
         ensures { self.new ≡ decided tag at self.old }
