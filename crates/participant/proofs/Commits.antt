@@ -1,5 +1,5 @@
 -- What becomes of a live transaction that is to commit, case by case.
-use Rattle.std.proofs.Common.{◌≡◌, ◌≤◌, ◌<◌, ◌⊎◌, inl, inr, ◌↔◌, ◌-◌, ◌^◌, ℕ, Bool, true, false, cond, List, [], ◌∷◌, Option, Some, None, Result, Err, nat_eq, refl, ap, subst, ◌∙◌, sym, arith}
+use Rattle.std.proofs.Common.{◌≡◌, ◌≤◌, ◌<◌, ◌⊎◌, inl, inr, ◌↔◌, ◌-◌, ◌^◌, ℕ, Bool, true, false, cond, List, [], ◌∷◌, Option, Some, None, Result, Err, nat_eq, refl, ap, ◌∙◌, sym, arith}
 use Rattle.std.proofs.lemmas.Bool.{ne_eqb, eq-eqb}
 use Rattle.txn_types.specs.Clock.{last_time, next_time, wanted_ceiling, ticked}
 use Rattle.txn_types.specs.declared.cause.Cause.TheVariants as cause
@@ -10,7 +10,7 @@ use Rattle.txn_types.specs.declared.write.Write.{Write}
 use Rattle.session_table.specs.declared.session.Session.{Session}
 use Rattle.participant.specs.declared.said.Open.{Open}
 use Rattle.participant.specs.Part.{Part, open_of}
-use Rattle.participant.specs.Commit.{Committing, fails, releases, commits_by, commits_writes, commits_open, commits_live}
+use Rattle.participant.specs.Commit.{fails, releases, commits_by, commits_writes, commits_open, commits_live}
 use Rattle.participant.specs.Stands.{has_written, has_writes}
 
 -- of another boot

@@ -1,5 +1,5 @@
 -- Live transactions that are too old, one after the other.
-use Rattle.std.proofs.Common.{◌≡◌, ◌<◌, ◌+◌, ◌-◌, ℕ, Bool, true, false, cond, List, [], ◌∷◌, Option, Some, None, IsSomeAnd, find, length, option_map, nat_lt, refl, ap, subst, ◌∙◌, sym, arith}
+use Rattle.std.proofs.Common.{◌≡◌, ◌<◌, ℕ, Bool, true, false, cond, List, [], ◌∷◌, Option, Some, None, IsSomeAnd, find, length, option_map, refl, ap, subst, ◌∙◌, sym, arith}
 use Rattle.std.specs.declared.cmp.Ordering.{Ordering}
 use Rattle.std.specs.declared.cmp.Ordering.TheVariants.{Less, Equal, Greater}
 use Rattle.std.specs.Ordering.{ordering_reverse}
@@ -16,8 +16,8 @@ use Rattle.session_table.specs.declared.session.SessionState.{SessionState}
 use Rattle.session_table.specs.declared.session.SessionState.TheVariants as state
 use Rattle.version_store.specs.Versions.{Versions}
 use Rattle.participant.specs.declared.said.Open.{Open}
-use Rattle.participant.specs.Expiry.{lifetime, expire_all}
-use Rattle.participant.specs.Part.{Part, session, open_of, end_live, ends_live}
+use Rattle.participant.specs.Expiry.{expire_all}
+use Rattle.participant.specs.Part.{Part, session, end_live, ends_live}
 use Rattle.participant.specs.Stands.{StateAt, SessionAt, Stands, is_older}
 use Rattle.participant.proofs.Tags.{lsid_self}
 
@@ -136,28 +136,32 @@ fewer_live p wall e stands rises found = let count : length (ended_row wall p e)
 
 -- One turn: the first that is too old is live, and ends.
 
+-- its session, and when it became live
+abbrev since : Row → Lsid × ℕ
+since e = (e.0, e.1.begun)
+
 pub record Turn (p : Part) (wall : ℕ) (lsid : Lsid) (begun : ℕ) : Type 0 where
   pub live : IsSomeAnd (session p lsid) (λ s. s.state ≡ state.Live)
   pub step : expire_all wall p.live p ≡ expire_all wall (end_live p lsid (cause.Expired begun wall)).live (end_live p lsid (cause.Expired begun wall))
   pub fewer : length (end_live p lsid (cause.Expired begun wall)).live < length p.live
 
-found_row : (o : Option Row) (lsid : Lsid) (begun : ℕ) → option_map (λ (e : Row). (e.0, e.1.begun)) o ≡ Some (lsid, begun) → (e : Row) × (o ≡ Some e) × (e.0 ≡ lsid) × (e.1.begun ≡ begun)
+found_row : (o : Option Row) (lsid : Lsid) (begun : ℕ) → option_map since o ≡ Some (lsid, begun) → (e : Row) × (o ≡ Some e) × (e.0 ≡ lsid) × (e.1.begun ≡ begun)
 found_row None lsid begun is = cc
 found_row (Some e) lsid begun is =
     let pair : (e.0, e.1.begun) ≡ (lsid, begun) = cc in
     (e, refl, ap (λ (x : Lsid × ℕ). x.0) pair, ap (λ (x : Lsid × ℕ). x.1) pair)
 
-pub turned : (p q : Part) (wall : ℕ) (lsid : Lsid) (begun : ℕ) → Stands p → Rises lsid_cmp p.live → option_map (λ (e : Row). (e.0, e.1.begun)) (find (is_older wall) p.live) ≡ Some (lsid, begun) → p ≡ q → Turn q wall lsid begun
+pub turned : (p q : Part) (wall : ℕ) (lsid : Lsid) (begun : ℕ) → Stands p → Rises lsid_cmp p.live → option_map since (find (is_older wall) p.live) ≡ Some (lsid, begun) → p ≡ q → Turn q wall lsid begun
 turned p q wall lsid begun stands rises is same =
     let row = found_row (find (is_older wall) p.live) lsid begun is in
     let e : Row = row.0 in
     let turn : Turn p wall e.0 e.1.begun = record { live = is_live p wall e stands rises row.1; step = one_step p wall e stands rises row.1; fewer = fewer_live p wall e stands rises row.1 } in
     subst (λ (r : Part). Turn r wall lsid begun) same (subst (λ (b : ℕ). Turn p wall lsid b) row.3 (subst (λ (l : Lsid). Turn p wall l e.1.begun) row.2 turn))
 
-none_row : (o : Option Row) → option_map (λ (e : Row). (e.0, e.1.begun)) o ≡ None → o ≡ None
+none_row : (o : Option Row) → option_map since o ≡ None → o ≡ None
 none_row None is = refl
 none_row (Some e) is = cc
 
 -- none is too old any more
-pub settled : (p q : Part) (wall : ℕ) → option_map (λ (e : Row). (e.0, e.1.begun)) (find (is_older wall) p.live) ≡ None → p ≡ q → expire_all wall q.live q ≡ q
+pub settled : (p q : Part) (wall : ℕ) → option_map since (find (is_older wall) p.live) ≡ None → p ≡ q → expire_all wall q.live q ≡ q
 settled p q wall is same = none_older wall q.live q (subst (λ (r : Part). find (is_older wall) r.live ≡ None) same (none_row (find (is_older wall) p.live) is))

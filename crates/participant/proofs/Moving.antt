@@ -3,11 +3,10 @@ use Rattle.std.proofs.Common.{◌≡◌, ℕ, Bool, true, false, cond, List, [],
 use Rattle.txn_types.specs.BySession.{BySession, entry_of, with_entry}
 use Rattle.txn_types.specs.Order.{same_tag, same_lsid, lsid_cmp}
 use Rattle.txn_types.specs.declared.cause.Cause.{Cause}
-use Rattle.txn_types.specs.declared.names.Tag.{Tag}
 use Rattle.txn_types.specs.declared.node.Lsid.{Lsid}
 use Rattle.txn_types.proofs.Orders.{lsid_total, lsid_exact}
 use Rattle.txn_semantics.specs.Keyed.{taken_out, Rises}
-use Rattle.txn_semantics.specs.Writes.{Place, place_of}
+use Rattle.txn_semantics.specs.Writes.{place_of}
 use Rattle.session_table.specs.Sessions.{Table, with_state}
 use Rattle.session_table.specs.declared.session.Session.{Session}
 use Rattle.session_table.specs.declared.session.SessionState.{SessionState}
@@ -119,10 +118,10 @@ ended_stands p store lsid s st stands r closed keys =
       mine = subst (λ o. SessionAt store o (open_of q lsid)) (sym here) (closed_at store now st (open_of q lsid) closed (none_live p lsid r));
       keys = keys;
       apart = λ x u t other hu ht uo to.
-      let same : Some now ≡ Some u = sym here ∙ hu in
-      let one : now ≡ u = cc in
-      let wrong : true ≡ false = sym uo ∙ ap (λ (v : Session). is_open v.state) (sym one) ∙ closed in
-      cc;
+          let same : Some now ≡ Some u = sym here ∙ hu in
+          let one : now ≡ u = cc in
+          let wrong : true ≡ false = sym uo ∙ ap (λ (v : Session). is_open v.state) (sym one) ∙ closed in
+          cc;
     })
 
 -- a live transaction ends with a cause
@@ -157,9 +156,9 @@ ending_case p lsid why o (Some s) is stands r live mine =
       keys = both.1 ∙ ap (λ tag. keys_of tag p.store) (sym both.0);
       there = subst IsSome (sym is) refl;
       gives = λ table live store ht hl hs.
-      let table_is : table ≡ with_state p.sessions lsid s (state.Aborted why 0) = subst (λ x. IfSome x (λ s. table ≡ with_state p.sessions lsid s (state.Aborted why 0))) is ht in
-      made p table (with_state p.sessions lsid s (state.Aborted why 0)) live (taken_out lsid_cmp lsid p.live) store (dropped s.tag p.store) table_is hl (hs ∙ ap (λ tag. dropped tag p.store) both.0)
-      ∙ sym told;
+          let table_is : table ≡ with_state p.sessions lsid s (state.Aborted why 0) = subst (λ x. IfSome x (λ s. table ≡ with_state p.sessions lsid s (state.Aborted why 0))) is ht in
+          made p table (with_state p.sessions lsid s (state.Aborted why 0)) live (taken_out lsid_cmp lsid p.live) store (dropped s.tag p.store) table_is hl (hs ∙ ap (λ tag. dropped tag p.store) both.0)
+          ∙ sym told;
       stands = subst Stands (sym told) (ended_stands p (dropped s.tag p.store) lsid s (state.Aborted why 0) stands r refl (λ x t other ht to. keys_dropped s.tag t.tag p.store (of_two p lsid x s t stands is so other ht to)));
     }
 
@@ -250,8 +249,8 @@ prepared_stands p lsid o at coordinator table live store stands r is_live mine h
       mine = subst (λ o. SessionAt left o (open_of q lsid)) (sym here) (none_live p lsid r);
       keys = λ x t other hx to. keys_stamped s.tag t.tag (stamp.Prepared s.tag at) p.store (two x t other hx to) (tag_flip s.tag t.tag ∙ two x t other hx to);
       apart = λ x u t other hu hx uo to.
-      let same : Some now ≡ Some u = sym here ∙ hu in
-      let one : now ≡ u = cc in
-      ap (λ (v : Session). same_tag v.tag t.tag) (sym one) ∙ tag_flip s.tag t.tag ∙ two x t other hx to;
+          let same : Some now ≡ Some u = sym here ∙ hu in
+          let one : now ≡ u = cc in
+          ap (λ (v : Session). same_tag v.tag t.tag) (sym one) ∙ tag_flip s.tag t.tag ∙ two x t other hx to;
     } in
     subst Stands (sym (made p table (with_state p.sessions lsid s st) live (taken_out lsid_cmp lsid p.live) store left table_is hl store_is)) (moved lsid p q stands moves)

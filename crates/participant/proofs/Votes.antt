@@ -1,7 +1,7 @@
 -- What becomes of a live transaction that is to be prepared, case by case.
-use Rattle.std.proofs.Common.{◌≡◌, ℕ, Bool, true, false, cond, Option, Some, None, option_map, nat_eq, refl, ap, ◌∙◌, sym}
+use Rattle.std.proofs.Common.{◌≡◌, ℕ, true, cond, Option, Some, None, option_map, nat_eq, ap, ◌∙◌, sym}
 use Rattle.std.proofs.lemmas.Bool.{ne_eqb}
-use Rattle.txn_types.specs.Clock.{last_time, next_time, ticked}
+use Rattle.txn_types.specs.Clock.{last_time, next_time}
 use Rattle.txn_types.specs.declared.cause.Cause.TheVariants as cause
 use Rattle.txn_types.specs.declared.message.Prepare.{Prepare}
 use Rattle.session_table.specs.declared.session.Session.{Session}

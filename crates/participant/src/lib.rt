@@ -1,4 +1,5 @@
-//! A shard's part in transactions: statements, commit, prepare, decision, abort, recovery and expiry.
+//! A shard's part in transactions: commit, prepare, abort, recovery and expiry; and, for the statements and decisions to
+//! come, what an operation touches and the write set of a transaction.
 #![tactic(auto)]
 
 mod clock;

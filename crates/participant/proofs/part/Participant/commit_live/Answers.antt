@@ -1,4 +1,4 @@
-use Rattle.std.proofs.Common.{◌≡◌, ◌∙◌, ℕ, Option, None, Some, ap, sym, unwrap_or}
+use Rattle.std.proofs.Common.{◌≡◌, ◌∙◌, ℕ, Option, None, ap, sym, unwrap_or}
 use Rattle.txn_types.specs.Clock.{ticked}
 use Rattle.txn_types.specs.declared.cause.Cause.TheVariants as cause
 use Rattle.participant.specs.Part.{Part}

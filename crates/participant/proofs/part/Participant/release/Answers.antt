@@ -1,4 +1,4 @@
-use Rattle.std.proofs.Common.{◌≡◌, ◌∙◌, IsSomeAnd, ap, sym, subst}
+use Rattle.std.proofs.Common.{◌≡◌, IsSomeAnd, sym, subst}
 use Rattle.session_table.specs.declared.session.SessionState.TheVariants as state
 use Rattle.participant.specs.Part.{Part, session}
 use Rattle.participant.proofs.Moving.{released}
