@@ -1,6 +1,6 @@
 -- The keys with a version of a transaction, where the versions of another one change.
-use Rattle.std.proofs.Common.{◌≡◌, ℕ, Bool, true, false, cond, not, List, [], ◌∷◌, Option, Some, None, IsSome, is_some, filter, find, map, option_map, refl, ap, ◌∙◌, sym, if◌then◌else◌}
-use Rattle.std.specs.List.{filter_map, cons_option}
+use Rattle.std.proofs.Common.{◌≡◌, Bool, true, false, cond, not, List, [], ◌∷◌, Option, Some, None, is_some, find, map, option_map, refl, ap, ◌∙◌, sym}
+use Rattle.std.specs.List.{cons_option}
 use Rattle.txn_types.specs.Order.{same_tag}
 use Rattle.txn_types.specs.declared.names.Tag.{Tag}
 use Rattle.bson_core.specs.Fields.{Document}
@@ -8,8 +8,8 @@ use Rattle.txn_semantics.specs.Writes.{Place}
 use Rattle.version_store.specs.declared.version.Stamp.{Stamp}
 use Rattle.version_store.specs.declared.version.Stamp.TheVariants.{Unfinished, Prepared, At}
 use Rattle.version_store.specs.declared.version.Version.{Version}
-use Rattle.version_store.specs.Versions.{Versions, first, is_some_and, is_of, writer_of, without, restamped, stamped, has_versions, dropped, written_by, keys_of}
-use Rattle.participant.proofs.Tags.{tag_self, tag_same, tag_flip}
+use Rattle.version_store.specs.Versions.{Versions, first, is_some_and, is_of, writer_of, without, restamped, stamped, dropped, written_by, keys_of}
+use Rattle.participant.proofs.Tags.{tag_same, tag_flip}
 
 -- One version.
 

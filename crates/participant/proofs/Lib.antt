@@ -7,3 +7,7 @@ pub mod Ordered
 pub mod Tags
 pub mod Keys
 pub mod Moving
+pub mod Commits
+pub mod Votes
+pub mod Merges
+pub mod Expiries

@@ -3,15 +3,15 @@ use Rattle.std.proofs.Common.{◌≡◌, ℕ, Bool, true, false, cond, List, [],
 use Rattle.txn_types.specs.BySession.{BySession, entry_of, with_entry}
 use Rattle.txn_types.specs.Order.{same_tag, same_lsid, lsid_cmp}
 use Rattle.txn_types.specs.declared.cause.Cause.{Cause}
-use Rattle.txn_types.specs.declared.names.Tag.{Tag}
 use Rattle.txn_types.specs.declared.node.Lsid.{Lsid}
 use Rattle.txn_types.proofs.Orders.{lsid_total, lsid_exact}
 use Rattle.txn_semantics.specs.Keyed.{taken_out, Rises}
-use Rattle.txn_semantics.specs.Writes.{Place, place_of}
+use Rattle.txn_semantics.specs.Writes.{place_of}
 use Rattle.session_table.specs.Sessions.{Table, with_state}
 use Rattle.session_table.specs.declared.session.Session.{Session}
 use Rattle.session_table.specs.declared.session.SessionState.{SessionState}
 use Rattle.session_table.specs.declared.session.SessionState.TheVariants as state
+use Rattle.version_store.specs.declared.version.Stamp.TheVariants as stamp
 use Rattle.version_store.specs.Versions.{Versions, keys_of, dropped, stamped}
 use Rattle.participant.specs.declared.said.Open.{Open}
 use Rattle.participant.specs.Part.{Part, session, open_of, is_open, ended, aborted, end_live, ends_live}
@@ -19,7 +19,7 @@ use Rattle.participant.specs.Laws.{ChangesOnly}
 use Rattle.participant.specs.Stands.{StateAt, SessionAt, Stands}
 use Rattle.participant.proofs.Ends.{ended_changes}
 use Rattle.version_store.proofs.Keyed.{found}
-use Rattle.participant.proofs.Keys.{keys_dropped}
+use Rattle.participant.proofs.Keys.{keys_dropped, keys_stamped}
 use Rattle.participant.proofs.Ordered.{taken_none}
 use Rattle.participant.proofs.Tags.{tag_flip, lsid_self, lsid_same, lsid_flip}
 
@@ -118,10 +118,10 @@ ended_stands p store lsid s st stands r closed keys =
       mine = subst (λ o. SessionAt store o (open_of q lsid)) (sym here) (closed_at store now st (open_of q lsid) closed (none_live p lsid r));
       keys = keys;
       apart = λ x u t other hu ht uo to.
-      let same : Some now ≡ Some u = sym here ∙ hu in
-      let one : now ≡ u = cc in
-      let wrong : true ≡ false = sym uo ∙ ap (λ (v : Session). is_open v.state) (sym one) ∙ closed in
-      cc;
+          let same : Some now ≡ Some u = sym here ∙ hu in
+          let one : now ≡ u = cc in
+          let wrong : true ≡ false = sym uo ∙ ap (λ (v : Session). is_open v.state) (sym one) ∙ closed in
+          cc;
     })
 
 -- a live transaction ends with a cause
@@ -156,9 +156,9 @@ ending_case p lsid why o (Some s) is stands r live mine =
       keys = both.1 ∙ ap (λ tag. keys_of tag p.store) (sym both.0);
       there = subst IsSome (sym is) refl;
       gives = λ table live store ht hl hs.
-      let table_is : table ≡ with_state p.sessions lsid s (state.Aborted why 0) = subst (λ x. IfSome x (λ s. table ≡ with_state p.sessions lsid s (state.Aborted why 0))) is ht in
-      made p table (with_state p.sessions lsid s (state.Aborted why 0)) live (taken_out lsid_cmp lsid p.live) store (dropped s.tag p.store) table_is hl (hs ∙ ap (λ tag. dropped tag p.store) both.0)
-      ∙ sym told;
+          let table_is : table ≡ with_state p.sessions lsid s (state.Aborted why 0) = subst (λ x. IfSome x (λ s. table ≡ with_state p.sessions lsid s (state.Aborted why 0))) is ht in
+          made p table (with_state p.sessions lsid s (state.Aborted why 0)) live (taken_out lsid_cmp lsid p.live) store (dropped s.tag p.store) table_is hl (hs ∙ ap (λ tag. dropped tag p.store) both.0)
+          ∙ sym told;
       stands = subst Stands (sym told) (ended_stands p (dropped s.tag p.store) lsid s (state.Aborted why 0) stands r refl (λ x t other ht to. keys_dropped s.tag t.tag p.store (of_two p lsid x s t stands is so other ht to)));
     }
 
@@ -173,3 +173,84 @@ has_none p lsid (Some s) is stands live none =
 
 pub has_something : (p : Part) (lsid : Lsid) → Stands p → IsSomeAnd (session p lsid) (λ s. s.state ≡ state.Live) → None ≡ open_of p lsid → ⊥
 has_something p lsid stands live none = has_none p lsid (session p lsid) refl stands live none
+
+-- What a live transaction has, as its session says.
+
+live_case : (p : Part) (lsid : Lsid) (o : Open) (found_there : Option Session) (s : Session) → session p lsid ≡ found_there → found_there ≡ Some s → Stands p → IsSomeAnd found_there (λ s. s.state ≡ state.Live) → Some o ≡ open_of p lsid
+    → (s.state ≡ state.Live) × (o.tag ≡ s.tag) × (map place_of o.writes ≡ keys_of s.tag p.store)
+live_case p lsid o None s is there stands live mine = absurd live
+live_case p lsid o (Some t) s is there stands live mine =
+    let same : t ≡ s = cc in
+    let at : SessionAt p.store (Some t) (Some o) = subst (λ x. SessionAt p.store (Some t) x) (sym mine) (subst (λ x. SessionAt p.store x (open_of p lsid)) is (stands.sessions lsid)) in
+    let both = live_state p t o t.state live at in
+    (ap (λ (u : Session). u.state) (sym same) ∙ live, both.0 ∙ ap (λ (u : Session). u.tag) same, both.1 ∙ ap (λ (u : Session). keys_of u.tag p.store) same)
+
+pub live_has : (p : Part) (lsid : Lsid) (o : Open) (s : Session) → session p lsid ≡ Some s → Stands p → IsSomeAnd (session p lsid) (λ s. s.state ≡ state.Live) → Some o ≡ open_of p lsid
+    → (s.state ≡ state.Live) × (o.tag ≡ s.tag) × (map place_of o.writes ≡ keys_of s.tag p.store)
+live_has p lsid o s is stands live mine = live_case p lsid o (session p lsid) s refl is stands live mine
+
+there_case : (found_there : Option Session) → IsSomeAnd found_there (λ s. s.state ≡ state.Live) → (s : Session) × (found_there ≡ Some s) × (s.state ≡ state.Live)
+there_case None live = absurd live
+there_case (Some s) live = (s, refl, live)
+
+-- the session of a live transaction
+pub live_there : (p : Part) (lsid : Lsid) → IsSomeAnd (session p lsid) (λ s. s.state ≡ state.Live) → (s : Session) × (session p lsid ≡ Some s) × (s.state ≡ state.Live)
+live_there p lsid live = there_case (session p lsid) live
+
+-- a session that is there
+pub if_there : {A : Type 0} (P : A → Type 0) (o : Option A) (a : A) → o ≡ Some a → IfSome o P → P a
+if_there P o a is h = subst (λ x. IfSome x P) is h
+
+-- An end of a session's live transaction, with these versions.
+pub ended_by : (p : Part) (lsid : Lsid) (s : Session) (st : SessionState) (table : Table) (live : List (Lsid × Open)) (store : Versions) → Stands p → Rises lsid_cmp p.live → is_open st ≡ false → session p lsid ≡ Some s
+    → IfSome (session p lsid) (λ s. table ≡ with_state p.sessions lsid s st) → live ≡ taken_out lsid_cmp lsid p.live
+    → ((x : Lsid) (t : Session) → same_lsid x lsid ≡ false → session p x ≡ Some t → is_open t.state ≡ true → keys_of t.tag store ≡ keys_of t.tag p.store)
+    → Stands (record p { sessions = table; live = live; store = store })
+ended_by p lsid s st table live store stands r closed is ht hl keys =
+    let table_is : table ≡ with_state p.sessions lsid s st = if_there (λ (s : Session). table ≡ with_state p.sessions lsid s st) (session p lsid) s is ht in
+    subst Stands (sym (made p table (with_state p.sessions lsid s st) live (taken_out lsid_cmp lsid p.live) store store table_is hl refl)) (ended_stands p store lsid s st stands r closed keys)
+
+-- it ends without a write
+pub released : (p : Part) (lsid : Lsid) (table : Table) (live : List (Lsid × Open)) → Stands p → Rises lsid_cmp p.live → IsSomeAnd (session p lsid) (λ s. s.state ≡ state.Live)
+    → IfSome (session p lsid) (λ s. table ≡ with_state p.sessions lsid s state.Released) → live ≡ taken_out lsid_cmp lsid p.live → Stands (record p { sessions = table; live = live })
+released p lsid table live stands r is_live ht hl =
+    let there = live_there p lsid is_live in
+    ended_by p lsid there.0 state.Released table live p.store stands r refl there.1 ht hl (λ x t other ht to. refl)
+
+-- it commits
+pub committed : (p : Part) (lsid : Lsid) (o : Open) (at : ℕ) (table : Table) (live : List (Lsid × Open)) (store : Versions) → Stands p → Rises lsid_cmp p.live → IsSomeAnd (session p lsid) (λ s. s.state ≡ state.Live) → Some o ≡ open_of p lsid
+    → IfSome (session p lsid) (λ s. table ≡ with_state p.sessions lsid s (state.Committed at)) → live ≡ taken_out lsid_cmp lsid p.live → store ≡ stamped o.tag (stamp.At at) p.store → Stands (record p { sessions = table; live = live; store = store })
+committed p lsid o at table live store stands r is_live mine ht hl hs =
+    let there = live_there p lsid is_live in
+    let has = live_has p lsid o there.0 there.1 stands is_live mine in
+    let so : is_open there.0.state ≡ true = is_live_open there.0.state there.2 in
+    let store_is : store ≡ stamped there.0.tag (stamp.At at) p.store = hs ∙ ap (λ tag. stamped tag (stamp.At at) p.store) has.1 in
+    ended_by p lsid there.0 (state.Committed at) table live store stands r refl there.1 ht hl
+    (λ x t other ht to. ap (keys_of t.tag) store_is ∙ keys_stamped there.0.tag t.tag (stamp.At at) p.store (of_two p lsid x there.0 t stands there.1 so other ht to) refl)
+
+-- it is prepared
+pub prepared_stands : (p : Part) (lsid : Lsid) (o : Open) (at coordinator : ℕ) (table : Table) (live : List (Lsid × Open)) (store : Versions) → Stands p → Rises lsid_cmp p.live → IsSomeAnd (session p lsid) (λ s. s.state ≡ state.Live) → Some o ≡ open_of p lsid
+    → IfSome (session p lsid) (λ s. table ≡ with_state p.sessions lsid s (state.Prepared at coordinator)) → live ≡ taken_out lsid_cmp lsid p.live → store ≡ stamped o.tag (stamp.Prepared o.tag at) p.store → Stands (record p { sessions = table; live = live; store = store })
+prepared_stands p lsid o at coordinator table live store stands r is_live mine ht hl hs =
+    let there = live_there p lsid is_live in
+    let s : Session = there.0 in
+    let has = live_has p lsid o s there.1 stands is_live mine in
+    let so : is_open s.state ≡ true = is_live_open s.state there.2 in
+    let st : SessionState = state.Prepared at coordinator in
+    let now : Session = record { number = s.number; tag = s.tag; state = st } in
+    let left : Versions = stamped s.tag (stamp.Prepared s.tag at) p.store in
+    let q : Part = ended (record p { store = left }) lsid s st in
+    let here : session q lsid ≡ Some now = entry_here lsid now p.sessions.entries in
+    let store_is : store ≡ left = hs ∙ ap (λ tag. stamped tag (stamp.Prepared tag at) p.store) has.1 in
+    let table_is : table ≡ with_state p.sessions lsid s st = if_there (λ (s : Session). table ≡ with_state p.sessions lsid s st) (session p lsid) s there.1 ht in
+    let two : (x : Lsid) (t : Session) → same_lsid x lsid ≡ false → session p x ≡ Some t → is_open t.state ≡ true → same_tag t.tag s.tag ≡ false = λ x t other hx to. of_two p lsid x s t stands there.1 so other hx to in
+    let moves : Moves lsid p q = record {
+      others = ended_changes lsid p left s st;
+      mine = subst (λ o. SessionAt left o (open_of q lsid)) (sym here) (none_live p lsid r);
+      keys = λ x t other hx to. keys_stamped s.tag t.tag (stamp.Prepared s.tag at) p.store (two x t other hx to) (tag_flip s.tag t.tag ∙ two x t other hx to);
+      apart = λ x u t other hu hx uo to.
+          let same : Some now ≡ Some u = sym here ∙ hu in
+          let one : now ≡ u = cc in
+          ap (λ (v : Session). same_tag v.tag t.tag) (sym one) ∙ tag_flip s.tag t.tag ∙ two x t other hx to;
+    } in
+    subst Stands (sym (made p table (with_state p.sessions lsid s st) live (taken_out lsid_cmp lsid p.live) store left table_is hl store_is)) (moved lsid p q stands moves)

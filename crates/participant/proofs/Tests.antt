@@ -1,5 +1,5 @@
 -- The equations of a filter's id test.
-use Rattle.std.proofs.Common.{◌≡◌, ℕ, Bool, List, [], ◌∷◌, ◌++◌, Option, Some, None, map, option_map, refl, ap, ◌∙◌, sym, append_assoc, if◌then◌else◌}
+use Rattle.std.proofs.Common.{◌≡◌, ℕ, Bool, List, [], ◌∷◌, ◌++◌, Option, Some, None, map, option_map, refl, ap, ◌∙◌, append_assoc, if◌then◌else◌}
 use Rattle.std.specs.List.{cons_option}
 use Rattle.std.proofs.lemmas.List.{append-nil}
 use Rattle.std.specs.Str.{bytes_eq}
@@ -13,7 +13,7 @@ use Rattle.txn_types.specs.declared.filter.Filter.TheOpen as asks
 use Rattle.txn_types.specs.declared.filter.Filter.TheViews as views
 use Rattle.txn_types.specs.declared.filter.Filter.TheVariants as leaves
 use Rattle.txn_types.specs.declared.filter.Filter.TheFolds.{fold-roll-Filter}
-use Rattle.txn_semantics.specs.Touched.{Touched, ids_among, first_some, id_test_step, id_test, joined_tests}
+use Rattle.txn_semantics.specs.Touched.{Touched, ids_among, first_some, id_test_step, id_test}
 
 pub id_test_and : (filters : List Filter) → id_test (views.And filters) ≡ first_some (map id_test filters)
 unfolding views.roll-Filter denote.Hole.Carrier.roll id_test
@@ -59,9 +59,9 @@ id_test_exists name wanted = fold-roll-Filter Touched id_test_step (asks.Exists 
 -- one more, where there is one
 pub kept_more : {A : Type 0} (xs : List A) (o : Option A) (rest : List A) → (xs ++ cons_option o []) ++ rest ≡ xs ++ cons_option o rest
 kept_more xs None rest = ap (λ (ys : List _). ys ++ rest) (append-nil xs)
-kept_more xs (Some a) rest = append_assoc
+kept_more xs (Some a) rest = append_assoc xs (a ∷ []) rest
 
 -- the tests of more items behind those of some
 pub joined_more : (xs ids : List Id) (rest : Touched) → option_map (λ (others : List Id). (xs ++ ids) ++ others) rest ≡ option_map (λ (others : List Id). xs ++ others) (option_map (λ (others : List Id). ids ++ others) rest)
 joined_more xs ids None = refl
-joined_more xs ids (Some others) = ap Some append_assoc
+joined_more xs ids (Some others) = ap Some (append_assoc xs ids others)

@@ -1,14 +1,17 @@
 -- What the calls of a shard's part need of it, and keep: of all that belongs to a part, the keys of the transactions that
 -- are live, and that each open one is of one session.
-use Rattle.std.specs.Prelude.{◌≡◌, true, map, Option, Some, None}
+use Rattle.std.specs.Prelude.{◌≡◌, ◌-◌, ℕ, nat_lt, Bool, true, false, List, [], ◌∷◌, map, Option, Some, None}
 use Rattle.txn_types.specs.Order.{same_tag, same_lsid}
 use Rattle.txn_types.specs.declared.node.Lsid.{Lsid}
+use Rattle.txn_types.specs.declared.write.Write.{Write}
 use Rattle.txn_semantics.specs.Writes.{place_of}
 use Rattle.session_table.specs.declared.session.Session.{Session}
 use Rattle.session_table.specs.declared.session.SessionState.{SessionState}
 use Rattle.session_table.specs.declared.session.SessionState.TheVariants as state
 use Rattle.version_store.specs.Versions.{Versions, keys_of}
+use Rattle.version_store.specs.declared.version.Pending.{Pending}
 use Rattle.participant.specs.declared.said.Open.{Open}
+use Rattle.participant.specs.Expiry.{lifetime}
 use Rattle.participant.specs.Part.{Part, session, open_of, is_open}
 
 -- a live transaction has something here, and its versions are of the documents that it wrote; no other has
@@ -28,3 +31,20 @@ SessionAt store (Some s) o = StateAt store s s.state o
 pub record Stands (p : Part) : Type 0 where
   pub sessions : (lsid : Lsid) → SessionAt p.store (session p lsid) (open_of p lsid)
   pub apart : (a b : Lsid) (s t : Session) → session p a ≡ Some s → session p b ≡ Some t → is_open s.state ≡ true → is_open t.state ≡ true → same_tag s.tag t.tag ≡ true → same_lsid a b ≡ true
+
+-- whether a transaction wrote here
+abbrev pub has_written : List Write → Bool
+has_written [] = false
+has_written (write ∷ writes) = true
+
+abbrev pub has_writes : Option Open → Bool
+has_writes None = false
+has_writes (Some o) = has_written o.writes
+
+-- what stands among the prepared transactions for one that was live
+abbrev pub pending_of : Lsid → Open → Pending
+pending_of lsid o = record { tag = o.tag; lsid = lsid; read_at = o.read_at; keys = map place_of o.writes }
+
+-- whether a live transaction is too old
+abbrev pub is_older : ℕ → Lsid × Open → Bool
+is_older wall entry = nat_lt lifetime (wall - entry.1.begun)

@@ -1,12 +1,17 @@
-//! A shard's part in transactions: statements, commit, prepare, decision, abort, recovery and expiry.
+//! A shard's part in transactions: commit, prepare, abort, recovery and expiry; and, for the statements and decisions to
+//! come, what an operation touches and the write set of a transaction.
 #![tactic(auto)]
 
+mod clock;
+mod committing;
 mod ending;
+mod expiring;
 mod key;
 pub mod laws;
 mod lives;
 mod merging;
 mod part;
+mod preparing;
 mod said;
 mod touching;
 

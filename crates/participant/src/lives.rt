@@ -1,17 +1,21 @@
-ghost use Rattle.std.specs.Prelude.{◌≡◌, [], map, IsOk, IsSome, IfErr, OnOk, OnErr};
+ghost use Rattle.std.specs.Prelude.{◌≡◌, [], find, map, option_map, IsOk, IsSome, OnOk, OnErr};
 ghost use Rattle.std.specs.Option.{option_copied};
 ghost use Rattle.txn_types.specs.BySession.{entry_of};
 ghost use Rattle.txn_types.specs.Order.{lsid_cmp};
 ghost use Rattle.txn_semantics.specs.Keyed.{put, taken_out, Rises};
 ghost use Rattle.txn_semantics.specs.Writes.{place_of};
+ghost use Rattle.participant.specs.Stands.{is_older};
 
 use crate::key::SessionKey;
 use crate::said::Open;
 use std::alloc::{AllocFailed, Global};
 use std::collections::BTreeMap;
 use std::marker::Model;
-use txn_types::{Lsid, Tag};
+use txn_types::{Lsid, Tag, Ts, Writes};
 use version_store::{Key, Keys};
+
+/// A transaction that isn't prepared lives so many seconds.
+const LIFETIME: u32 = 60;
 
 /// What a live transaction has, and the keys that it wrote.
 #[derive(Drop)]
@@ -63,10 +67,12 @@ impl Live {
         self.keys.as_slice()
     }
 
-    pub fn into_open(self) -> Open
-        ensures { result ≡ self }
+    /// Its tag, its read timestamp and what it wrote.
+    pub fn into_written(self) -> (Tag, Ts, Writes)
+        ensures { result ≡ (self.tag, self.read_at, self.writes) }
     {
-        self.held
+        let held = self.held;
+        (held.tag, held.read_at, held.writes)
     }
 }
 
@@ -111,6 +117,21 @@ impl Lives {
         ensures { option_copied result ≡ entry_of lsid.now self.now }
     {
         self.lives.get(&SessionKey::new(lsid))
+    }
+
+    /// The first session, in their order, whose transaction became live more than 60 seconds before the wall; and when.
+    pub fn first_older(&self, wall: u32) -> Option<(Lsid, u32)>
+        ensures rises { Rises lsid_cmp self.now }
+        ensures first { result ≡ option_map (λ e. (e.0, e.1.begun)) (find (is_older wall) self.now) }
+    {
+        let _count = self.len();
+        for (key, live) in self.lives.iter() {
+            let begun = live.open().begun;
+            if LIFETIME < wall.saturating_sub(begun) {
+                return Some((*key.lsid(), begun));
+            }
+        }
+        None
     }
 
     /// Puts what the session's live transaction has, whatever stood there; only a session that is new may want memory.

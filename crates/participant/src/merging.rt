@@ -115,6 +115,17 @@ pub fn keys_of(alloc: Global, writes: &[Write]) -> Result<Keys, AllocError>
     Ok(Items::from_vec(keys))
 }
 
+/// Copies of the keys.
+pub fn copied_keys(alloc: Global, keys: &[Key]) -> Result<Keys, AllocError>
+    ensures { IfOk result (λ copies. copies ≡ keys.now) }
+{
+    let mut copies = Vec::new(alloc);
+    for key in keys {
+        copies.push(key.copy(alloc)?)?;
+    }
+    Ok(Items::from_vec(copies))
+}
+
 /// The last write to each document, of a transaction's own writes and those of a statement.
 pub fn merged(alloc: Global, own: &[Write], writes: &Writes) -> Result<Writes, AllocError>
     requires { AllKept own.now }
