@@ -1,6 +1,8 @@
 ghost use Rattle.std.specs.Prelude.{◌≡◌, ◌↔◌, None, Some, IfOk, length, refl};
 ghost use Rattle.std.specs.Cmp.{
-    partial_order_from_total, eq_by_cmp_equiv, partial_equiv_from_equiv,
+  partial_order_from_total,
+  eq_by_cmp_equiv,
+  partial_equiv_from_equiv,
 };
 ghost use Rattle.std.specs.Ordering.{eq_by_cmp, as_partial_cmp};
 ghost use Rattle.txn_types.specs.Totals.{id_is_total};

@@ -4,7 +4,9 @@ ghost use Rattle.txn_types.specs.Names.{is_name_byte, is_database, is_collection
 ghost use Rattle.txn_types.specs.declared.names.NsErr.TheVariants.{Memory};
 ghost use Rattle.std.specs.Prelude.{refl};
 ghost use Rattle.std.specs.Cmp.{
-    partial_order_from_total, eq_by_cmp_equiv, partial_equiv_from_equiv,
+  partial_order_from_total,
+  eq_by_cmp_equiv,
+  partial_equiv_from_equiv,
 };
 ghost use Rattle.std.specs.Cmp.Lexicographic.{slice_cmp};
 ghost use Rattle.std.specs.Ordering.{nat_cmp, eq_by_cmp, as_partial_cmp};
