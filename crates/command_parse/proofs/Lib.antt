@@ -1,1 +1,4 @@
 pub mod Behind
+pub mod Lacking
+pub mod Checked
+pub mod Placing

@@ -8,7 +8,12 @@ use std::alloc::{AllocError, Global};
 #[derive(Clone, Copy, PartialEq, Eq)]
 pub enum Command {
     Ping,
+    /// What the server is; by an older name where `old_name`.
+    Hello { old_name: bool },
     Statement(Statement),
+    Commit,
+    Abort,
+    EndSessions,
 }
 
 /// A command that is an operation on a collection.
@@ -27,10 +32,15 @@ impl Command {
     {
         match name {
             "ping" => Some(Command::Ping),
+            "hello" => Some(Command::Hello { old_name: false }),
+            "isMaster" | "ismaster" => Some(Command::Hello { old_name: true }),
             "insert" => Some(Command::Statement(Statement::Insert)),
             "find" => Some(Command::Statement(Statement::Find)),
             "update" => Some(Command::Statement(Statement::Update)),
             "delete" => Some(Command::Statement(Statement::Delete)),
+            "commitTransaction" => Some(Command::Commit),
+            "abortTransaction" => Some(Command::Abort),
+            "endSessions" => Some(Command::EndSessions),
             _ => None,
         }
     }

@@ -1,4 +1,6 @@
-ghost use Rattle.std.specs.Prelude.{◌≡◌, ◌++◌, map, is_some, IfOk, Ok};
+ghost use Rattle.std.specs.Prelude.{◌≡◌, ◌++◌, ◌∷◌, [], map, is_some, IfOk, Ok, IsTrue};
+ghost use Rattle.bson_core.specs.Names.{has_no_zero};
+ghost use Rattle.command_parse.specs.Commands.{batch_of, rule_of};
 ghost use Rattle.std.specs.Option.{option_copied};
 ghost use Rattle.bson_core.specs.declared.value.Value.TheViews.{out-Value};
 ghost use Rattle.txn_types.specs.Names.{is_database, is_collection};
@@ -7,7 +9,7 @@ ghost use Rattle.crud_parse.specs.Operators.{beside};
 ghost use Rattle.command_parse.specs.Values.{text_where};
 ghost use Rattle.command_parse.specs.Checks.{check_each, complete, or_wrong, firsts, lacking};
 ghost use Rattle.command_parse.specs.Items.{InBody, InSection, batch_check};
-ghost use Rattle.command_parse.specs.Operations.{in_body, in_section, value_check, field_check, given_in, needed, checked};
+ghost use Rattle.command_parse.specs.Operations.{in_body, in_section, value_check, field_by, field_check, given_in, needed_list, needed_database, needed_session, is_in_transaction, needed, checked};
 ghost use Rattle.command_parse.specs.declared.command.Command.TheVariants as command;
 
 use crate::batches::{batch_in_section, batch_in_value};
@@ -15,9 +17,12 @@ use crate::checks::{is_among, or_wrong, present};
 use crate::command::{Command, Statement};
 use crate::items::check_items;
 use crate::rules::{Batch, Rule};
-use crate::values::{check_session, document_in, falls_in, is_zero, limit_in};
+use crate::values::{
+    check_concern, check_gossip, check_session, check_sessions, document_in, falls_in, is_zero,
+    limit_in, no_upsert_in, number_in,
+};
 use bson_core::{Doc, Name, Value, get};
-use crud_parse::{CrudErr, read_inner};
+use crud_parse::{CrudErr, flag_in, read_inner};
 use op_msg::Frame;
 use sqlite_items::Items;
 use std::alloc::{AllocError, Global};
@@ -118,11 +123,24 @@ fn check_value(
             }
         }
         Rule::Batch(batch) => return check_batch(alloc, batch, value),
+        Rule::Number => {
+            let _number = or_wrong(alloc, name, number_in(value))?;
+        }
+        Rule::Flag => {
+            let _flag = flag_in(alloc, name, value)?;
+        }
+        Rule::Clear => {
+            let _clear = no_upsert_in(alloc, name, value)?;
+        }
+        Rule::ClusterTime => return check_gossip(alloc, name, value),
+        Rule::Concern => return check_concern(alloc, name, value),
+        Rule::Sessions => return check_sessions(alloc, name, value),
     }
     Ok(None)
 }
 
 /// What is missing in a field of the body.
+#[tactic(auto, using(crate::proofs::Lacking::body_field))]
 fn check_field(
     alloc: Global,
     command: Command,
@@ -139,14 +157,14 @@ fn check_field(
     }
 }
 
-/// What is missing in a section.
-fn check_section(
+/// What is missing in a section, of a command that is no hello.
+fn check_known_section(
     alloc: Global,
     command: Command,
     name: &Name,
     docs: &[Doc],
 ) -> Result<Option<Name>, CrudErr>
-    ensures { Gives (λ m. m) result (field_check command (in_section (name.now, docs.now))) }
+    ensures { Gives (λ m. m) result (field_by name.now (InSection docs.now) (rule_of command name.now)) }
 {
     let Some(rule) = Rule::of(command, name.as_str()) else {
         return Err(CrudErr::UnknownField {
@@ -161,6 +179,25 @@ fn check_section(
         _ => Err(CrudErr::UnknownField {
             name: name.copy(alloc)?,
         }),
+    }
+}
+
+/// What is missing in a section. A hello's aren't looked at.
+fn check_section(
+    alloc: Global,
+    command: Command,
+    name: &Name,
+    docs: &[Doc],
+) -> Result<Option<Name>, CrudErr>
+    ensures { Gives (λ m. m) result (field_check command (in_section (name.now, docs.now))) }
+{
+    match command {
+        Command::Hello { .. } => Ok(None),
+        Command::Ping
+        | Command::Statement(_)
+        | Command::Commit
+        | Command::Abort
+        | Command::EndSessions => check_known_section(alloc, command, name, docs),
     }
 }
 
@@ -216,47 +253,112 @@ fn has_field(frame: &Frame, name: &str) -> bool
     }
 }
 
+/// Whether a statement is one of a transaction: its `autocommit` is false.
+pub fn is_in_transaction(frame: &Frame) -> bool
+    ensures { result ≡ is_in_transaction frame.now }
+{
+    match get(&frame.body, "autocommit") {
+        Some(Value::Bool(flag)) => !*flag,
+        _ => false,
+    }
+}
+
+/// The name, where there is no field of it.
+fn lacks(alloc: Global, frame: &Frame, name: &str) -> Result<Option<Name>, CrudErr>
+    requires { IsTrue (has_no_zero name.now) }
+    ensures { Gives (λ m. m) result (Ok (lacking (λ name. is_some (given_in name frame.now)) (name.now ∷ []))) }
+{
+    if has_field(frame, name) {
+        return Ok(None);
+    }
+    Ok(Some(Name::from_str(alloc, name)?))
+}
+
+/// The list of documents that a statement has to have, where it lacks it.
+fn lacking_batch(
+    alloc: Global,
+    statement: Statement,
+    frame: &Frame,
+) -> Result<Option<Name>, CrudErr>
+    ensures { Gives (λ m. m) result (Ok (lacking (λ name. is_some (given_in name frame.now)) (needed_list (batch_of statement)))) }
+{
+    let Some(batch) = Batch::of(statement) else {
+        return Ok(None);
+    };
+    if has_field(frame, batch.as_str()) {
+        return Ok(None);
+    }
+    Ok(Some(batch.name(alloc)?))
+}
+
+/// The database, where it is lacking and no older form of messages has it.
+fn lacking_database(alloc: Global, frame: &Frame) -> Result<Option<Name>, CrudErr>
+    ensures { Gives (λ m. m) result (Ok (lacking (λ name. is_some (given_in name frame.now)) (needed_database frame.now))) }
+{
+    if frame.legacy {
+        return Ok(None);
+    }
+    lacks(alloc, frame, "$db")
+}
+
+/// The session or the number that is lacking, where they are wanted.
+fn lacking_session(alloc: Global, wanted: bool, frame: &Frame) -> Result<Option<Name>, CrudErr>
+    ensures { Gives (λ m. m) result (Ok (lacking (λ name. is_some (given_in name frame.now)) (needed_session wanted))) }
+{
+    if !wanted {
+        return Ok(None);
+    }
+    if !has_field(frame, "lsid") {
+        return Ok(Some(Name::from_str(alloc, "lsid")?));
+    }
+    if !has_field(frame, "txnNumber") {
+        return Ok(Some(Name::from_str(alloc, "txnNumber")?));
+    }
+    Ok(None)
+}
+
 /// The first of the fields that a statement has to have and hasn't.
+#[tactic(auto, using(crate::proofs::Lacking::lacking_behind))]
 fn lacking_in_statement(
     alloc: Global,
     statement: Statement,
     frame: &Frame,
 ) -> Result<Option<Name>, CrudErr>
-    ensures { Gives (λ m. m) result (Ok (lacking (λ name. is_some (given_in name frame.now)) (needed (command.Statement statement)))) }
+    ensures { Gives (λ m. m) result (Ok (lacking (λ name. is_some (given_in name frame.now)) (needed (command.Statement statement) frame.now))) }
 {
-    if let Some(batch) = Batch::of(statement) {
-        if !has_field(frame, batch.as_str()) {
-            return Ok(Some(batch.name(alloc)?));
-        }
-    }
-    if !has_field(frame, "$db") {
-        return Ok(Some(Name::from_str(alloc, "$db")?));
-    }
-    if !has_field(frame, statement.as_str()) {
-        return Ok(Some(statement.name(alloc)?));
-    }
-    Ok(None)
+    let batch = lacking_batch(alloc, statement, frame)?;
+    let database = lacking_database(alloc, frame)?;
+    let session = lacking_session(alloc, is_in_transaction(frame), frame)?;
+    Ok(batch.or(database).or(session))
+}
+
+/// The first of the fields that the end of a transaction has to have and hasn't.
+#[tactic(auto, using(crate::proofs::Lacking::lacking_behind))]
+fn lacking_in_end(alloc: Global, frame: &Frame) -> Result<Option<Name>, CrudErr>
+    ensures { Gives (λ m. m) result (Ok (lacking (λ name. is_some (given_in name frame.now)) (needed command.Commit frame.now))) }
+{
+    let database = lacking_database(alloc, frame)?;
+    let session = lacking_session(alloc, true, frame)?;
+    let autocommit = lacks(alloc, frame, "autocommit")?;
+    Ok(database.or(session).or(autocommit))
 }
 
 /// The first of the fields that a command has to have and hasn't.
 fn lacking(alloc: Global, command: Command, frame: &Frame) -> Result<Option<Name>, CrudErr>
-    ensures { Gives (λ m. m) result (Ok (lacking (λ name. is_some (given_in name frame.now)) (needed command))) }
+    ensures { Gives (λ m. m) result (Ok (lacking (λ name. is_some (given_in name frame.now)) (needed command frame.now))) }
 {
     match command {
-        Command::Ping => {
-            if !has_field(frame, "$db") {
-                return Ok(Some(Name::from_str(alloc, "$db")?));
-            }
-            if !has_field(frame, "ping") {
-                return Ok(Some(Name::from_str(alloc, "ping")?));
-            }
-            Ok(None)
+        Command::Ping | Command::Hello { .. } | Command::EndSessions => {
+            lacking_database(alloc, frame)
         }
         Command::Statement(statement) => lacking_in_statement(alloc, statement, frame),
+        Command::Commit | Command::Abort => lacking_in_end(alloc, frame),
     }
 }
 
-/// Refuses a command whose fields aren't as they have to be, or that lacks one.
+/// Whether the message has the fields that the command has; else its first refusal. The refusals are as those of
+/// `read_op`, where `lsid` and `txnNumber` are missing behind `$db`, and the end of a transaction needs `autocommit` behind
+/// them.
 #[tactic(auto, unfolding(crate::specs::Operations::checked))]
 pub fn check(alloc: Global, command: Command, frame: &Frame) -> Result<(), CrudErr>
     ensures { Gives (λ u. u) result (checked command frame.now) }

@@ -7,9 +7,13 @@ mod checks;
 mod command;
 mod fields;
 mod items;
+mod laws;
 mod operations;
 mod rules;
 mod values;
 
 pub use command::{Command, Statement};
-pub use operations::{read_op, read_ping};
+pub use fields::{check, is_in_transaction};
+pub use laws::items_have_places;
+pub use operations::read_op;
+pub use values::{document_in, is_zero, number_in, time_in};

@@ -1,6 +1,6 @@
 ghost use Rattle.std.specs.Prelude.{◌≡◌, ◌≤◌, map, length, IfOk};
 ghost use Rattle.crud_parse.specs.Results.{Gives};
-ghost use Rattle.command_parse.specs.Operations.{text_under, namespace_in, batch_under, filter_under, falls_under, limit_under, find_of, built, op_of, ping_of};
+ghost use Rattle.command_parse.specs.Operations.{text_under, namespace_in, batch_under, filter_under, falls_under, limit_under, find_of, built, op_of};
 
 use crate::batches::{batch_in_section, batch_in_value};
 use crate::building::{delete_items, field_in, insert_items, update_items};
@@ -139,7 +139,7 @@ fn build(alloc: Global, statement: Statement, ns: Ns, frame: &Frame) -> Result<O
 /// Otherwise the first refusal is answered that is met front to back: `UnknownField` for a field that the statement or an
 /// item of it hasn't, `WrongKind` with the name of the field or of the inner field, or what `read_filter` and
 /// `read_update` refuse. `Missing` comes where there is no other refusal: first what a field lacks inside, then the list
-/// of documents, then `$db` and the field of the statement's own name.
+/// of documents, then `$db`, and of a statement of a transaction `lsid` and `txnNumber`.
 ///
 /// It goes through the message twice: it is checked first, and built when nothing was refused.
 #[tactic(auto, unfolding(crate::specs::Operations::op_of))]
@@ -149,12 +149,4 @@ pub fn read_op(alloc: Global, statement: Statement, frame: &Frame) -> Result<Op,
     check(alloc, Command::Statement(statement), frame)?;
     let ns = namespace_in(alloc, statement, &frame.body)?;
     build(alloc, statement, ns, frame)
-}
-
-/// Whether the message is a ping with the fields that one has. The refusals are as those of `read_op`.
-#[tactic(auto, unfolding(crate::specs::Operations::ping_of))]
-pub fn read_ping(alloc: Global, frame: &Frame) -> Result<(), CrudErr>
-    ensures { Gives (λ u. u) result (ping_of frame.now) }
-{
-    check(alloc, Command::Ping, frame)
 }

@@ -1,6 +1,6 @@
 ghost use Rattle.std.specs.Prelude.{◌≡◌, IfOk};
 ghost use Rattle.command_parse.specs.declared.command.Command.TheVariants as command;
-ghost use Rattle.command_parse.specs.Commands.{list_name, batch_of, own_rule, common_rule, rule_of, item_rule};
+ghost use Rattle.command_parse.specs.Commands.{list_name, batch_of, own_rule, common_rule, other_rule, rule_of, item_rule};
 
 use crate::command::{Command, Statement};
 use bson_core::Name;
@@ -45,6 +45,18 @@ pub enum Rule {
     Skip,
     /// Documents of that meaning.
     Batch(Batch),
+    /// A number.
+    Number,
+    /// A truth value.
+    Flag,
+    /// The truth value false.
+    Clear,
+    /// A document with a cluster time.
+    ClusterTime,
+    /// A read concern.
+    Concern,
+    /// Documents with the ids of sessions, 1 to 100,000.
+    Sessions,
 }
 
 /// What a field of an item has to be.
@@ -142,7 +154,22 @@ fn own_rule(command: Command, name: &str) -> Option<Rule>
             "ping" => Some(Rule::Ignored),
             _ => None,
         },
+        Command::Hello { .. } => None,
         Command::Statement(statement) => statement_rule(statement, name),
+        Command::Commit => match name {
+            "commitTransaction" | "recoveryToken" => Some(Rule::Ignored),
+            "autocommit" => Some(Rule::Clear),
+            _ => None,
+        },
+        Command::Abort => match name {
+            "abortTransaction" | "recoveryToken" => Some(Rule::Ignored),
+            "autocommit" => Some(Rule::Clear),
+            _ => None,
+        },
+        Command::EndSessions => match name {
+            "endSessions" => Some(Rule::Sessions),
+            _ => None,
+        },
     }
 }
 
@@ -153,6 +180,10 @@ fn common_rule(name: &str) -> Option<Rule>
     match name {
         "$db" => Some(Rule::Database),
         "lsid" => Some(Rule::Session),
+        "txnNumber" => Some(Rule::Number),
+        "autocommit" | "startTransaction" => Some(Rule::Flag),
+        "readConcern" => Some(Rule::Concern),
+        "$clusterTime" => Some(Rule::ClusterTime),
         "writeConcern" => Some(Rule::Document),
         "$readPreference"
         | "comment"
@@ -165,12 +196,26 @@ fn common_rule(name: &str) -> Option<Rule>
     }
 }
 
+/// The rule of a field that is none of the command's: a hello may have any.
+fn other_rule(command: Command) -> Option<Rule>
+    ensures { result ≡ other_rule command }
+{
+    match command {
+        Command::Hello { .. } => Some(Rule::Ignored),
+        Command::Ping
+        | Command::Statement(_)
+        | Command::Commit
+        | Command::Abort
+        | Command::EndSessions => None,
+    }
+}
+
 impl Rule {
     /// The one for the command's field of that name.
     pub fn of(command: Command, name: &str) -> Option<Rule>
         ensures { result ≡ rule_of command name.now }
     {
-        own_rule(command, name).or(common_rule(name))
+        own_rule(command, name).or(common_rule(name).or(other_rule(command)))
     }
 }
 
