@@ -11,3 +11,4 @@ pub mod Commits
 pub mod Votes
 pub mod Merges
 pub mod Expiries
+pub mod Places

@@ -1,6 +1,6 @@
 -- What the calls of a shard's part need of it, and keep: of all that belongs to a part, the keys of the transactions that
 -- are live, and that each open one is of one session.
-use Rattle.std.specs.Prelude.{◌≡◌, ◌-◌, ℕ, nat_lt, Bool, true, false, List, [], ◌∷◌, map, Option, Some, None}
+use Rattle.std.specs.Prelude.{◌≡◌, ◌-◌, ℕ, min, nat_lt, Bool, true, false, List, [], ◌∷◌, map, Option, Some, None}
 use Rattle.txn_types.specs.Order.{same_tag, same_lsid}
 use Rattle.txn_types.specs.declared.node.Lsid.{Lsid}
 use Rattle.txn_types.specs.declared.write.Write.{Write}
@@ -48,3 +48,9 @@ pending_of lsid o = record { tag = o.tag; lsid = lsid; read_at = o.read_at; keys
 -- whether a live transaction is too old
 abbrev pub is_older : ℕ → Lsid × Open → Bool
 is_older wall entry = nat_lt lifetime (wall - entry.1.begun)
+
+-- the lesser of two, where both are there
+abbrev pub lesser : Option ℕ → Option ℕ → Option ℕ
+lesser None b = b
+lesser (Some a) None = Some a
+lesser (Some a) (Some b) = Some (min a b)

@@ -9,6 +9,7 @@ mod expiring;
 mod key;
 pub mod laws;
 mod lives;
+mod looking;
 mod merging;
 mod part;
 mod preparing;
