@@ -1,2 +1,4 @@
 pub mod Errors
+pub mod Tokens
 pub mod Commands
+pub mod Lists

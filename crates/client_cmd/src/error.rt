@@ -9,10 +9,14 @@ use std::alloc::{AllocError, AllocFailed};
 /// Why a command isn't served.
 #[derive(Drop)]
 pub enum CmdErr {
-    /// There is no such command, or it has a field of a kind of commands that aren't served yet.
+    /// There is no such command, or it came in the older form of messages and is no hello.
     Unknown { name: Name },
     /// The client wants no answer: writes without one aren't served.
     Unacknowledged,
+    /// A write is to be retried by its number, outside a transaction.
+    RetryWrite,
+    /// A cluster time is more than a year ahead of the wall: its seconds, and the wall.
+    ClusterTimeAhead { secs: u32, wall: u32 },
     /// The command's fields aren't those that it has.
     Parse(CrudErr),
     /// There was no memory.

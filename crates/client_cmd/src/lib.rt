@@ -2,9 +2,12 @@
 #![tactic(auto)]
 
 mod error;
+mod fields;
 mod reading;
 mod request;
+mod times;
+mod tokens;
 
 pub use error::CmdErr;
 pub use reading::read_command;
-pub use request::Request;
+pub use request::{Lsids, Request, Txn};

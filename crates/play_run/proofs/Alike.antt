@@ -28,8 +28,8 @@ answered_alike c s t rest (Closed number) same = record { text = refl; server = 
 
 turn_by_alike : (c : ℕ) (s t : State) (held : List ℕ) (next : Next) → Alike s t → TurnsAlike (turn_by c s held next) (turn_by c t held next)
 turn_by_alike c s t held (Ok (Some message)) same =
-    subst (λ (a : Answer). TurnsAlike (answered c (behind s message.0) message.1 (answer_of s message.0)) (answered c (behind t message.0) message.1 a)) (sym (answer_alike s t message.0 same))
-    (answered_alike c (behind s message.0) (behind t message.0) message.1 (answer_of s message.0) (behind_alike s t message.0 same))
+    subst (λ (a : Answer). TurnsAlike (answered c (behind s message.0) message.1 (answer_of c s message.0)) (answered c (behind t message.0) message.1 a)) (sym (answer_alike c s t message.0 same))
+    (answered_alike c (behind s message.0) (behind t message.0) message.1 (answer_of c s message.0) (behind_alike s t message.0 same))
 turn_by_alike c s t held (Ok None) same = record { text = refl; server = same; held = refl; more = refl }
 turn_by_alike c s t held (Err e) same = record { text = refl; server = same; held = refl; more = refl }
 

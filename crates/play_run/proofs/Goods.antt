@@ -17,7 +17,7 @@ answered_good c s rest Silent g = g
 answered_good c s rest (Closed number) g = g
 
 turn_by_good : (c : ℕ) (s : State) (held : List ℕ) (next : Next) → Good s → Good (turn_by c s held next).server
-turn_by_good c s held (Ok (Some message)) g = answered_good c (behind s message.0) message.1 (answer_of s message.0) (behind_good s message.0 g)
+turn_by_good c s held (Ok (Some message)) g = answered_good c (behind s message.0) message.1 (answer_of c s message.0) (behind_good s message.0 g)
 turn_by_good c s held (Ok None) g = g
 turn_by_good c s held (Err e) g = g
 

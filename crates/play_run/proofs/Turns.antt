@@ -50,7 +50,7 @@ answered_shrinks c s rest Silent n less more = less
 answered_shrinks c s rest (Closed number) n less more = cc
 
 by_next : (c : ℕ) (s : State) (held : List ℕ) (next : Next) → next_of 48000000 held ≡ next → (turn_by c s held next).more ≡ true → length (turn_by c s held next).held < length held
-by_next c s held (Ok (Some message)) is more = answered_shrinks c (behind s message.0) message.1 (answer_of s message.0) (length held) (rest_shrinks 48000000 held message.0 message.1 is) more
+by_next c s held (Ok (Some message)) is more = answered_shrinks c (behind s message.0) message.1 (answer_of c s message.0) (length held) (rest_shrinks 48000000 held message.0 message.1 is) more
 by_next c s held (Ok None) is more = cc
 by_next c s held (Err e) is more = cc
 

@@ -39,7 +39,7 @@ answered connection s rest (Closed number) = record { text = closed_line connect
 
 -- by what comes next on the connection: bytes that can't begin a message close it
 abbrev pub turn_by : ℕ → State → List ℕ → Next → Turn
-turn_by connection s held (Ok (Some message)) = answered connection (behind s message.0) message.1 (answer_of s message.0)
+turn_by connection s held (Ok (Some message)) = answered connection (behind s message.0) message.1 (answer_of connection s message.0)
 turn_by connection s held (Ok None) = record { text = []; server = s; held = held; more = false }
 turn_by connection s held (Err e) = record { text = closed_line connection (number_of e); server = s; held = []; more = false }
 

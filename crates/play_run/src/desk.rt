@@ -55,10 +55,10 @@ fn serve_message(
 ) -> Result<bool, AllocError>
     requires sound { IsSound server.old }
     requires limit { feeder.old.limit ≡ 48000000 }
-    ensures turn { IfOk result (λ more. Turned (answered connection (behind (state_of server.old) message.now) feeder.old.held (answer_of (state_of server.old) message.now)) server.new feeder.new out.old.items out.new.items more) }
+    ensures turn { IfOk result (λ more. Turned (answered connection (behind (state_of server.old) message.now) feeder.old.held (answer_of connection (state_of server.old) message.now)) server.new feeder.new out.old.items out.new.items more) }
     ensures sound { OnOk result (IsSound server.new) }
 {
-    match server.answer(alloc, message)? {
+    match server.answer(alloc, connection, message)? {
         Answer::Reply(bytes) => {
             put_reply(alloc, out, connection, bytes.as_slice())?;
             Ok(true)

@@ -6,7 +6,7 @@ use Rattle.txn_semantics.specs.declared.commits.Entry.{Entry}
 use Rattle.txn_semantics.specs.declared.commits.Answered.{Answered}
 use Rattle.txn_semantics.specs.Meaning.{Meaning}
 use Rattle.client_cmd.specs.declared.request.Request.{Request}
-use Rattle.client_cmd.specs.declared.request.Request.TheVariants.{Ping, Statement}
+use Rattle.client_cmd.specs.declared.request.Request.TheVariants.{Ping, Hello, Statement, Commit, Abort, EndSessions}
 use Rattle.single_node.specs.Serving.{State, has_serial, with_answer, meaning, reply_to}
 use Rattle.single_node.specs.Messages.{asks, behind_asked, behind, answer_asked, answer_of, told}
 use Rattle.single_node.specs.Standing.{state_of, StandsAt}
@@ -31,8 +31,12 @@ served_alike true s past op m = refl
 served_alike false s past op m = refl
 
 behind_by : (s : State) (past : List Answered) (r : Result Request Unserved) → Alike (behind_asked s r) (behind_asked (with_answered past s) r)
-behind_by s past (Ok Ping) = refl
-behind_by s past (Ok (Statement op)) = served_alike (has_serial s) s past op (meaning s op)
+behind_by s past (Ok (Ping more time)) = refl
+behind_by s past (Ok (Hello old_name more time)) = refl
+behind_by s past (Ok (Commit txn token more time)) = refl
+behind_by s past (Ok (Abort txn more time)) = refl
+behind_by s past (Ok (EndSessions ids more time)) = refl
+behind_by s past (Ok (Statement op txn at after more time)) = served_alike (has_serial s) s past op (meaning s op)
 behind_by s past (Err e) = refl
 
 last_by : (b : Bool) (s : State) (past : List Answered) (op : Op) (m : Meaning)
@@ -40,18 +44,22 @@ last_by : (b : Bool) (s : State) (past : List Answered) (op : Op) (m : Meaning)
 last_by true s past op m = refl
 last_by false s past op m = refl
 
-answer_by : (s : State) (past : List Answered) (bytes : List ℕ) (r : Result Request Unserved) → answer_asked (with_answered past s) bytes r ≡ answer_asked s bytes r
-answer_by s past bytes (Ok Ping) = refl
-answer_by s past bytes (Ok (Statement op)) = ap (λ (time : ℕ). told bytes (reply_to s (Statement op)) time) (last_by (has_serial s) s past op (meaning s op))
-answer_by s past bytes (Err (unserved.Told why)) = refl
-answer_by s past bytes (Err (unserved.Closed number)) = refl
-answer_by s past bytes (Err unserved.Memory) = refl
+answer_by : (conn : ℕ) (s : State) (past : List Answered) (bytes : List ℕ) (r : Result Request Unserved) → answer_asked conn (with_answered past s) bytes r ≡ answer_asked conn s bytes r
+answer_by conn s past bytes (Ok (Ping more time)) = refl
+answer_by conn s past bytes (Ok (Hello old_name more time)) = refl
+answer_by conn s past bytes (Ok (Commit txn token more time)) = refl
+answer_by conn s past bytes (Ok (Abort txn more time)) = refl
+answer_by conn s past bytes (Ok (EndSessions ids more time)) = refl
+answer_by conn s past bytes (Ok (Statement op txn at after more seen)) = ap (λ (time : ℕ). told bytes (reply_to conn s (Statement op txn at after more seen)) time) (last_by (has_serial s) s past op (meaning s op))
+answer_by conn s past bytes (Err (unserved.Told why)) = refl
+answer_by conn s past bytes (Err (unserved.Closed number)) = refl
+answer_by conn s past bytes (Err unserved.Memory) = refl
 
 pub behind_alike : (s t : State) (bytes : List ℕ) → Alike s t → Alike (behind s bytes) (behind t bytes)
 behind_alike s t bytes same = subst (λ (x : State). Alike (behind s bytes) (behind x bytes)) (sym same) (behind_by s t.answered (asks bytes))
 
-pub answer_alike : (s t : State) (bytes : List ℕ) → Alike s t → answer_of t bytes ≡ answer_of s bytes
-answer_alike s t bytes same = ap (λ (x : State). answer_of x bytes) same ∙ answer_by s t.answered bytes (asks bytes)
+pub answer_alike : (conn : ℕ) (s t : State) (bytes : List ℕ) → Alike s t → answer_of conn t bytes ≡ answer_of conn s bytes
+answer_alike conn s t bytes same = ap (λ (x : State). answer_of conn x bytes) same ∙ answer_by conn s t.answered bytes (asks bytes)
 
 -- a server's fields in a state's place
 abbrev at_fields : ℕ → ℕ → List Entry → List Answered → State

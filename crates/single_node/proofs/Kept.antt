@@ -15,7 +15,7 @@ use Rattle.txn_semantics.specs.Meaning.{Meaning, reply_of, writes_of, ns_of}
 use Rattle.txn_semantics.specs.View.{view}
 use Rattle.txn_semantics.specs.Writes.{write_set}
 use Rattle.client_cmd.specs.declared.request.Request.{Request}
-use Rattle.client_cmd.specs.declared.request.Request.TheVariants.{Ping, Statement}
+use Rattle.client_cmd.specs.declared.request.Request.TheVariants.{Ping, Hello, Statement, Commit, Abort, EndSessions}
 use Rattle.single_node.specs.Right.{has_commit}
 use Rattle.single_node.specs.Serving.{State, first_state, commit_time, tag_of, meaning, writes_something, statement_of, commit_of, with_answer, has_serial, served, served_all}
 use Rattle.single_node.proofs.Good.{GoodAnswer, GoodCommit, Follows, Good}
@@ -100,8 +100,12 @@ served_by s op true g = answered_good s op (meaning s op) (writes_something (mea
 served_by s op false g = g
 
 pub served_good : (s : State) (r : Request) → Good s → Good (served s r)
-served_good s Ping g = g
-served_good s (Statement op) g = served_by s op (has_serial s) g
+served_good s (Ping more time) g = g
+served_good s (Hello old_name more time) g = g
+served_good s (Commit txn token more time) g = g
+served_good s (Abort txn more time) g = g
+served_good s (EndSessions ids more time) g = g
+served_good s (Statement op txn at after more time) g = served_by s op (has_serial s) g
 
 pub all_good : (s : State) (requests : List Request) → Good s → Good (served_all s requests)
 all_good s [] g = g

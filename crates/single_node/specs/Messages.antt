@@ -1,19 +1,24 @@
 -- What the bytes of a message ask, and what they are answered. Which faults close a connection is this project's choice,
 -- as are the numbers of faults.
-use Rattle.std.specs.Prelude.{ℕ, ℤ, pos, Bool, true, false, not, List, drop, length, Option, Some, None, Result, Ok, Err, nat_lt, if◌then◌else◌}
-use Rattle.std.specs.Int.{w32, cast_signed}
+use Rattle.std.specs.Prelude.{ℕ, Bool, true, false, List, [], ◌∷◌, length, Option, Some, None, Result, Ok, Err, codes, nat_lt, if◌then◌else◌}
+use Rattle.std.specs.List.{list_any}
+use Rattle.std.specs.Str.{bytes_eq}
 use Rattle.outcomes.specs.Outcome as outcome
-use Rattle.bson_core.specs.Reading.{number_at}
+use Rattle.bson_core.specs.Fields.{Document}
 use Rattle.bson_core.specs.declared.error.BsonErr.TheVariants as document
-use Rattle.op_msg.specs.Message.{message, has_flag}
+use Rattle.op_msg.specs.Asking.{request_id, is_legacy, wants_reply}
+use Rattle.op_msg.specs.Message.{message}
 use Rattle.op_msg.specs.Reading.{frame_of}
 use Rattle.op_msg.specs.declared.frame.Frame.{Frame}
 use Rattle.op_msg.specs.declared.frame.FrameErr.{FrameErr}
 use Rattle.op_msg.specs.declared.frame.FrameErr.TheVariants as fault
 use Rattle.crud_parse.specs.declared.error.CrudErr.TheVariants as parsing
-use Rattle.client_cmd.specs.Commands.{request_of}
+use Rattle.command_parse.specs.declared.command.Command.{Command}
+use Rattle.command_parse.specs.declared.command.Command.TheVariants as command
+use Rattle.command_parse.specs.Commands.{command_named}
+use Rattle.client_cmd.specs.Commands.{first_name, request_of}
 use Rattle.client_cmd.specs.declared.error.CmdErr.{CmdErr}
-use Rattle.client_cmd.specs.declared.error.CmdErr.TheVariants as command
+use Rattle.client_cmd.specs.declared.error.CmdErr.TheVariants as refused
 use Rattle.client_cmd.specs.declared.request.Request.{Request}
 use Rattle.client_reply.specs.Replies.{reply_frame}
 use Rattle.client_reply.specs.declared.reply.Reply.{Reply}
@@ -39,15 +44,17 @@ from_message (fault.Bson other) = Told (refusal.BadMessage 7)
 from_message fault.Memory = Memory
 
 abbrev pub from_command : CmdErr → Unserved
-from_command (command.Unknown name) = Told (refusal.Unknown name)
-from_command command.Unacknowledged = Told refusal.Unacknowledged
-from_command (command.Parse (parsing.UnknownOperator name)) = Told (refusal.UnknownOperator name)
-from_command (command.Parse (parsing.DottedName name)) = Told (refusal.DottedName name)
-from_command (command.Parse (parsing.WrongKind name)) = Told (refusal.WrongKind name)
-from_command (command.Parse (parsing.Missing name)) = Told (refusal.Missing name)
-from_command (command.Parse (parsing.UnknownField name)) = Told (refusal.UnknownField name)
-from_command (command.Parse parsing.Memory) = Memory
-from_command command.Memory = Memory
+from_command (refused.Unknown name) = Told (refusal.Unknown name)
+from_command refused.Unacknowledged = Told refusal.Unacknowledged
+from_command refused.RetryWrite = Told refusal.RetryWrite
+from_command (refused.ClusterTimeAhead secs wall) = Told (refusal.ClusterTimeAhead secs wall)
+from_command (refused.Parse (parsing.UnknownOperator name)) = Told (refusal.UnknownOperator name)
+from_command (refused.Parse (parsing.DottedName name)) = Told (refusal.DottedName name)
+from_command (refused.Parse (parsing.WrongKind name)) = Told (refusal.WrongKind name)
+from_command (refused.Parse (parsing.Missing name)) = Told (refusal.Missing name)
+from_command (refused.Parse (parsing.UnknownField name)) = Told (refusal.UnknownField name)
+from_command (refused.Parse parsing.Memory) = Memory
+from_command refused.Memory = Memory
 
 -- want of memory, which no definition answers
 abbrev pub is_memory : Unserved → Bool
@@ -62,52 +69,66 @@ abbrev pub asked_by : Result Request CmdErr → Result Request Unserved
 asked_by (Ok request) = Ok request
 asked_by (Err error) = Err (from_command error)
 
+-- the fields by which a command is one of a transaction or has a place in time, as the manual's chapters on transactions and
+-- on causal consistency have them
+abbrev pub is_transactional : List ℕ → Bool
+is_transactional name = list_any (λ other. bytes_eq name other) (
+    codes "txnNumber" ∷
+    codes "autocommit" ∷
+    codes "startTransaction" ∷
+    codes "readConcern" ∷
+    codes "$clusterTime" ∷
+    [])
+
+abbrev pub has_transactional : Document → Bool
+has_transactional body = list_any (λ field. is_transactional field.0) body
+
+-- requests of transactions aren't served yet, and neither are ends of sessions: they are told as commands that aren't known. A
+-- hello may have any field.
+abbrev pub is_unserved : Option Command → Document → Bool
+is_unserved None body = false
+is_unserved (Some command.Ping) body = has_transactional body
+is_unserved (Some (command.Hello old_name)) body = false
+is_unserved (Some (command.Statement statement)) body = has_transactional body
+is_unserved (Some command.Commit) body = true
+is_unserved (Some command.Abort) body = true
+is_unserved (Some command.EndSessions) body = true
+
+-- the moment of each request is second 1
+abbrev pub asked_of : Frame → Bool → Result Request Unserved
+asked_of frame true = Err (Told (refusal.Unknown (first_name frame.body)))
+asked_of frame false = asked_by (request_of 1 frame)
+
 abbrev pub read_by : Result Frame FrameErr → Result Request Unserved
-read_by (Ok frame) = asked_by (request_of frame)
+read_by (Ok frame) = asked_of frame (is_unserved (command_named (first_name frame.body)) frame.body)
 read_by (Err error) = Err (from_message error)
 
 -- what a message asks
 abbrev pub asks : List ℕ → Result Request Unserved
 asks bytes = read_by (frame_of bytes)
 
--- the message's own number, the second of its header
-abbrev pub signed_number : Option (ℕ × List ℕ) → ℤ
-signed_number None = pos 0
-signed_number (Some number) = cast_signed w32 number.0
-
-abbrev pub request_id : List ℕ → ℤ
-request_id bytes = signed_number (number_at w32 (drop 4 bytes))
-
--- the flag moreToCome, bit 1 of those behind the header, isn't set
-abbrev pub more_is_clear : Option (ℕ × List ℕ) → Bool
-more_is_clear None = true
-more_is_clear (Some flags) = not (has_flag 1 flags.0)
-
-abbrev pub wants_reply : List ℕ → Bool
-wants_reply bytes = more_is_clear (number_at w32 (drop 16 bytes))
-
 -- a reply goes out where one is wanted, and where it fits into a message; else it closes the connection as too large
 abbrev pub sent : List ℕ → Answer
 sent bytes = if nat_lt 400000000 (length bytes) then answer.Closed 8 else answer.Reply bytes
 
 abbrev pub told : List ℕ → Reply → ℕ → Answer
-told bytes reply time = if wants_reply bytes then sent (message (reply_frame reply (request_id bytes) time)) else answer.Silent
+told bytes reply time = if wants_reply bytes then sent (message (reply_frame reply (request_id bytes) (is_legacy bytes) time)) else answer.Silent
 
 -- behind what was asked
 abbrev pub behind_asked : State → Result Request Unserved → State
 behind_asked s (Ok request) = served s request
 behind_asked s (Err error) = s
 
--- what it is answered
-abbrev pub answer_asked : State → List ℕ → Result Request Unserved → Answer
-answer_asked s bytes (Ok request) = told bytes (reply_to s request) (served s request).last
-answer_asked s bytes (Err (Told why)) = told bytes (Refused why) s.last
-answer_asked s bytes (Err (Closed number)) = answer.Closed number
-answer_asked s bytes (Err Memory) = answer.Silent
+-- what it is answered on this connection
+abbrev pub answer_asked : ℕ → State → List ℕ → Result Request Unserved → Answer
+answer_asked conn s bytes (Ok request) = told bytes (reply_to conn s request) (served s request).last
+answer_asked conn s bytes (Err (Told why)) = told bytes (Refused why) s.last
+answer_asked conn s bytes (Err (Closed number)) = answer.Closed number
+answer_asked conn s bytes (Err Memory) = answer.Silent
 
 -- behind a message, and its answer
 abbrev pub behind : State → List ℕ → State
 behind s bytes = behind_asked s (asks bytes)
 
-abbrev pub answer_of : State → List ℕ → Answer
-answer_of s bytes = answer_asked s bytes (asks bytes)
+abbrev pub answer_of : ℕ → State → List ℕ → Answer
+answer_of conn s bytes = answer_asked conn s bytes (asks bytes)

@@ -1,7 +1,7 @@
 -- What one router and one shard do with requests. A statement draws a serial, and is evaluated over all commits so far;
 -- where it writes something, it commits. So each command is a transaction by itself, as a write outside a transaction is
 -- in the MongoDB manual.
-use Rattle.std.specs.Prelude.{ℕ, ◌+◌, ◌-◌, ◌^◌, ◌==◌, nat_lt, Bool, not, List, [], ◌∷◌, ◌++◌, length, Some, None, Ok, Err, if◌then◌else◌}
+use Rattle.std.specs.Prelude.{ℕ, pos, codes, ◌+◌, ◌-◌, ◌^◌, ◌==◌, nat_lt, Bool, not, List, [], ◌∷◌, ◌++◌, length, Some, None, Ok, Err, if◌then◌else◌}
 use Rattle.txn_types.specs.Clock.{next_time}
 use Rattle.txn_types.specs.declared.names.Tag.{Tag}
 use Rattle.txn_types.specs.declared.operation.Op.{Op}
@@ -13,10 +13,11 @@ use Rattle.txn_semantics.specs.declared.commits.Answered.{Answered}
 use Rattle.txn_semantics.specs.Meaning.{Meaning, eval, reply_of, writes_of, ns_of}
 use Rattle.txn_semantics.specs.View.{view}
 use Rattle.client_cmd.specs.declared.request.Request.{Request}
-use Rattle.client_cmd.specs.declared.request.Request.TheVariants.{Ping, Statement}
+use Rattle.client_cmd.specs.declared.request.Request.TheVariants.{Ping, Hello, Statement, Commit, Abort, EndSessions}
 use Rattle.client_reply.specs.declared.reply.Reply.{Reply}
 use Rattle.client_reply.specs.declared.reply.Reply.TheVariants as reply
-use Rattle.client_reply.specs.declared.reply.Refusal.TheVariants.{ReplyTooLarge, Spent}
+use Rattle.client_reply.specs.declared.reply.Refusal.TheVariants.{ReplyTooLarge, Spent, Unknown}
+use Rattle.txn_types.specs.declared.cause.Cause.TheVariants as cause
 
 -- the serial drawn last, the time of the last commit, the commits, and the statements that were answered
 pub record State : Type 0 where
@@ -66,8 +67,12 @@ has_serial s = nat_lt s.serial (2 ^ 63 - 1)
 
 -- behind a request; without a serial a statement is refused unseen
 abbrev pub served : State → Request → State
-served s Ping = s
-served s (Statement op) = if has_serial s then with_answer s op (meaning s op) else s
+served s (Ping more time) = s
+served s (Hello old_name more time) = s
+served s (Statement op txn at after more time) = if has_serial s then with_answer s op (meaning s op) else s
+served s (Commit txn token more time) = s
+served s (Abort txn more time) = s
+served s (EndSessions ids more time) = s
 
 -- behind requests, one after the other
 abbrev pub served_all : State → List Request → State
@@ -76,16 +81,20 @@ served_all s (request ∷ requests) = served_all (served s request) requests
 
 -- what is told of counts, and of documents, which have to fit into one answer
 abbrev pub told_of : Op → OpReply → Reply
-told_of (Update ns items) (Count n modified) = reply.Wrote n (Some modified)
-told_of other (Count n modified) = reply.Wrote n None
-told_of op (Rows docs None) = reply.Found (ns_of op) docs
+told_of (Update ns items) (Count n modified) = reply.Wrote n (Some modified) None
+told_of other (Count n modified) = reply.Wrote n None None
+told_of op (Rows docs None) = reply.Found (ns_of op) docs None
 told_of op (Rows docs (Some id)) = reply.Refused ReplyTooLarge
 
 abbrev pub told : Op → Meaning → Reply
 told op (Ok ok) = told_of op ok.0
-told op (Err e) = reply.Caused e
+told op (Err e) = reply.Caused 0 (pos 0) (cause.Statement e)
 
--- the reply to a request
-abbrev pub reply_to : State → Request → Reply
-reply_to s Ping = reply.Ping
-reply_to s (Statement op) = if has_serial s then told op (meaning s op) else reply.Refused Spent
+-- the reply to a request on a connection; ends of transactions and of sessions aren't served yet
+abbrev pub reply_to : ℕ → State → Request → Reply
+reply_to conn s (Ping more time) = reply.Ping
+reply_to conn s (Hello old_name more time) = reply.Hello old_name 1 conn
+reply_to conn s (Statement op txn at after more time) = if has_serial s then told op (meaning s op) else reply.Refused Spent
+reply_to conn s (Commit txn token more time) = reply.Refused (Unknown (codes "commitTransaction"))
+reply_to conn s (Abort txn more time) = reply.Refused (Unknown (codes "abortTransaction"))
+reply_to conn s (EndSessions ids more time) = reply.Refused (Unknown (codes "endSessions"))

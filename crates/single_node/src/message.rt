@@ -1,18 +1,19 @@
-ghost use Rattle.std.specs.Prelude.{◌≡◌};
-ghost use Rattle.bson_core.specs.Reading.{number_at};
-ghost use Rattle.single_node.specs.Messages.{Gives, from_message, from_command, asks, request_id, wants_reply};
+ghost use Rattle.std.specs.Prelude.{◌≡◌, IfOk};
+ghost use Rattle.command_parse.specs.Commands.{command_named};
+ghost use Rattle.client_cmd.specs.Commands.{first_name};
+ghost use Rattle.single_node.specs.declared.message.Unserved.TheVariants.{Memory};
+ghost use Rattle.single_node.specs.Messages.{Gives, from_message, from_command, is_transactional, has_transactional, is_unserved, asks};
 
-use bson_core::{BsonErr, front_u32};
+use bson_core::{BsonErr, Doc, Name};
 use client_cmd::{CmdErr, Request, read_command};
 use client_reply::Refusal;
+use command_parse::Command;
 use crud_parse::CrudErr;
 use op_msg::{FrameErr, read_frame};
-use std::alloc::Global;
+use std::alloc::{AllocError, Global};
 
-/// Where a message's own number stands, and where its flags do.
-const REQUEST_ID: usize = 4;
-
-const FLAGS: usize = 16;
+/// The moment of each request, in seconds.
+const WALL: u32 = 1;
 
 /// Why a message isn't served.
 #[derive(Drop)]
@@ -23,6 +24,14 @@ pub enum Unserved {
     Closed { number: u8 },
     /// There was no memory.
     Memory,
+}
+
+impl From<AllocError> for Unserved {
+    ghost from_gives = { λ _ e. e ≡ Memory };
+
+    fn from(_e: AllocError) -> Unserved {
+        Unserved::Memory
+    }
 }
 
 impl From<FrameErr> for Unserved {
@@ -53,6 +62,10 @@ impl From<CmdErr> for Unserved {
         match error {
             CmdErr::Unknown { name } => Unserved::Told(Refusal::Unknown { name }),
             CmdErr::Unacknowledged => Unserved::Told(Refusal::Unacknowledged),
+            CmdErr::RetryWrite => Unserved::Told(Refusal::RetryWrite),
+            CmdErr::ClusterTimeAhead { secs, wall } => {
+                Unserved::Told(Refusal::ClusterTimeAhead { secs, wall })
+            }
             CmdErr::Parse(CrudErr::UnknownOperator { name }) => {
                 Unserved::Told(Refusal::UnknownOperator { name })
             }
@@ -71,38 +84,67 @@ impl From<CmdErr> for Unserved {
     }
 }
 
-/// Reads what a message asks.
+/// The name of the command.
+fn first_name(alloc: Global, body: &Doc) -> Result<Name, AllocError>
+    ensures { IfOk result (λ n. n ≡ first_name body.now) }
+{
+    match body.as_slice() {
+        [] => Name::from_str(alloc, ""),
+        [(name, _), ..] => name.copy(alloc),
+    }
+}
+
+/// The command of the first name, if it is one.
+fn command_named(body: &Doc) -> Option<Command>
+    ensures { result ≡ command_named (first_name body.now) }
+{
+    match body.as_slice() {
+        [] => None,
+        [(name, _), ..] => Command::of(name.as_str()),
+    }
+}
+
+/// Whether a field of that name belongs to transactions.
+fn is_transactional(name: &str) -> bool
+    ensures { result ≡ is_transactional name.now }
+{
+    match name {
+        "txnNumber" | "autocommit" | "startTransaction" | "readConcern" | "$clusterTime" => true,
+        _ => false,
+    }
+}
+
+fn has_transactional(body: &Doc) -> bool
+    ensures { result ≡ has_transactional body.now }
+{
+    body.as_slice()
+        .iter()
+        .any(|field| is_transactional(field.0.as_str()))
+}
+
+/// Whether it is a request of a transaction, or an end of sessions: these aren't served yet.
+fn is_unserved(body: &Doc) -> bool
+    ensures { result ≡ is_unserved (command_named (first_name body.now)) body.now }
+{
+    match command_named(body) {
+        None => false,
+        Some(Command::Hello { .. }) => false,
+        Some(Command::Ping) => has_transactional(body),
+        Some(Command::Statement(_)) => has_transactional(body),
+        Some(Command::Commit) => true,
+        Some(Command::Abort) => true,
+        Some(Command::EndSessions) => true,
+    }
+}
+
+/// Reads what a message asks. A request that isn't served yet is refused as one of a command that isn't known.
 pub fn read_request(alloc: Global, message: &[u8]) -> Result<Request, Unserved>
     ensures { Gives (λ r. r) result (asks message.now) }
 {
     let frame = read_frame(alloc, message)?;
-    Ok(read_command(alloc, &frame)?)
-}
-
-/// The message's own number, which its reply names.
-#[tactic(auto, unfolding(bson_core::specs::Reading::number_at))]
-pub fn request_id(message: &[u8]) -> i32
-    ensures { result ≡ request_id message.now }
-{
-    if message.len() < REQUEST_ID {
-        return 0;
+    if is_unserved(&frame.body) {
+        let name = first_name(alloc, &frame.body)?;
+        return Err(Unserved::Told(Refusal::Unknown { name }));
     }
-    match front_u32(&message[REQUEST_ID..]) {
-        Some((number, _)) => number.cast_signed(),
-        None => 0,
-    }
-}
-
-/// Whether its sender wants a reply: the flag moreToCome, bit 1, is clear.
-#[tactic(auto, unfolding(bson_core::specs::Reading::number_at))]
-pub fn wants_reply(message: &[u8]) -> bool
-    ensures { result ≡ wants_reply message.now }
-{
-    if message.len() < FLAGS {
-        return true;
-    }
-    match front_u32(&message[FLAGS..]) {
-        Some((flags, _)) => (flags >> 1) % 2 != 1,
-        None => true,
-    }
+    Ok(read_command(alloc, &frame, WALL)?)
 }

@@ -2,13 +2,14 @@ ghost use Rattle.std.specs.Prelude.{◌≡◌, ◌<◌, ◌≤◌, ◌+◌, ◌-
 ghost use Rattle.txn_semantics.specs.Meaning.{ns_of};
 ghost use Rattle.single_node.specs.Serving.{commit_time, told_of};
 
+use bson_core::Name;
 use client_cmd::Request;
 use client_reply::{Refusal, Reply};
 use query_eval::{EvalErr, eval};
 use row_tables::Tables;
 use std::alloc::{AllocError, Global};
 use txn_semantics::Entry;
-use txn_types::{HybridClock, Ns, Op, OpReply, Tag, Ts, Writes};
+use txn_types::{Cause, HybridClock, Ns, Op, OpReply, Tag, Ts, Writes};
 
 /// The moment of each event, in seconds.
 const WALL: u32 = 1;
@@ -67,15 +68,18 @@ fn told(op: Op, reply: OpReply) -> Reply
             Op::Update { .. } => Reply::Wrote {
                 n,
                 modified: Some(modified),
+                token: None,
             },
             Op::Insert { .. } | Op::Find { .. } | Op::Delete { .. } => Reply::Wrote {
                 n,
                 modified: None,
+                token: None,
             },
         },
         OpReply::Rows { docs, cut: None } => Reply::Found {
             ns: into_namespace(op),
             docs,
+            token: None,
         },
         OpReply::Rows { cut: Some(_), .. } => Reply::Refused(Refusal::ReplyTooLarge),
     }
@@ -94,11 +98,12 @@ fn tick(clock: &mut HybridClock) -> Ts
 }
 
 impl Server {
-    ghost use Rattle.std.specs.Prelude.{◌≡◌, ◌≤◌, ◌<◌, ◌+◌, ◌-◌, ◌^◌, IfOk, OnOk};
-    ghost use Rattle.client_cmd.specs.declared.request.Request.TheVariants.{Statement};
+    ghost use Rattle.std.specs.Prelude.{◌≡◌, ◌≤◌, ◌<◌, ◌+◌, ◌-◌, ◌^◌, IfOk, OnOk, if◌then◌else◌};
+    ghost use Rattle.client_reply.specs.declared.reply.Reply.TheVariants as reply;
+    ghost use Rattle.client_reply.specs.declared.reply.Refusal.TheVariants.{Spent};
     ghost use Rattle.query_eval.specs.Acts.{Means};
     ghost use Rattle.client_reply.specs.Replies.{FitsReply};
-    ghost use Rattle.single_node.specs.Serving.{first_state, commit_time, meaning, reply_to, served};
+    ghost use Rattle.single_node.specs.Serving.{first_state, commit_time, meaning, has_serial, with_answer, told, reply_to, served};
     ghost use Rattle.single_node.specs.Standing.{state_of, StandsAt, IsSound};
     ghost use Rattle.single_node.specs.Committing.{Committed};
 
@@ -116,17 +121,31 @@ impl Server {
         }
     }
 
-    /// Serves a request. A statement draws a serial, whether it is refused or not; what it writes is committed.
-    pub fn serve(&mut self, alloc: Global, request: Request) -> Result<Reply, AllocError>
+    /// Serves a request on that connection. A statement draws a serial, whether it is refused or not; what it writes is committed.
+    pub fn serve(&mut self, alloc: Global, conn: u32, request: Request) -> Result<Reply, AllocError>
         requires { IsSound self.old }
-        ensures reply { IfOk result (λ r. r ≡ reply_to (state_of self.old) request) }
+        ensures reply { IfOk result (λ r. r ≡ reply_to conn (state_of self.old) request) }
         ensures fits { IfOk result FitsReply }
         ensures state { OnOk result (StandsAt self.new (served (state_of self.old) request)) }
         ensures sound { OnOk result (IsSound self.new) }
     {
         match request {
-            Request::Ping => Ok(Reply::Ping),
-            Request::Statement { op } => self.statement(alloc, op),
+            Request::Ping { .. } => Ok(Reply::Ping),
+            Request::Hello { old_name, .. } => Ok(Reply::Hello {
+                old_name,
+                wall: WALL,
+                conn,
+            }),
+            Request::Statement { op, .. } => self.statement(alloc, op),
+            Request::Commit { .. } => Ok(Reply::Refused(Refusal::Unknown {
+                name: Name::from_str(alloc, "commitTransaction")?,
+            })),
+            Request::Abort { .. } => Ok(Reply::Refused(Refusal::Unknown {
+                name: Name::from_str(alloc, "abortTransaction")?,
+            })),
+            Request::EndSessions { .. } => Ok(Reply::Refused(Refusal::Unknown {
+                name: Name::from_str(alloc, "endSessions")?,
+            })),
         }
     }
 
@@ -141,9 +160,9 @@ impl Server {
 
     fn statement(&mut self, alloc: Global, op: Op) -> Result<Reply, AllocError>
         requires { IsSound self.old }
-        ensures reply { IfOk result (λ r. r ≡ reply_to (state_of self.old) (Statement op)) }
+        ensures reply { IfOk result (λ r. r ≡ (if has_serial (state_of self.old) then told op (meaning (state_of self.old) op) else reply.Refused Spent)) }
         ensures fits { IfOk result FitsReply }
-        ensures state { OnOk result (StandsAt self.new (served (state_of self.old) (Statement op))) }
+        ensures state { OnOk result (StandsAt self.new (if has_serial (state_of self.old) then with_answer (state_of self.old) op (meaning (state_of self.old) op) else state_of self.old)) }
         ensures sound { OnOk result (IsSound self.new) }
     {
         if self.serial >= LAST_SERIAL {
@@ -156,7 +175,11 @@ impl Server {
                 self.commit(alloc, writes)?;
                 Ok(told(op, reply))
             }
-            Err(EvalErr::Op(err)) => Ok(Reply::Caused { err }),
+            Err(EvalErr::Op(err)) => Ok(Reply::Caused {
+                shard: 0,
+                number: 0,
+                cause: Cause::Statement { err },
+            }),
             Err(EvalErr::Memory) => Err(AllocError),
         }
     }

@@ -1,14 +1,13 @@
 //! What a message is read as, in words: the request, or the refusal with its name.
 use bson_core::{Name, Value};
 use bson_text::{print, print_value};
-use client_cmd::{CmdErr, Request, read_command};
-use command_parse::{Command, read_op, read_ping};
+use client_cmd::{CmdErr, Request, Txn, read_command};
 use crud_parse::CrudErr;
 use op_msg::{Frame, read_frame};
 use std::alloc::{AllocError, Global};
-use std::test::Fail;
 use txn_types::{
-    Cmp, DeleteItem, Filter, InsertItem, Op, Update, UpdateItem, UpdateKind, UpdateOp,
+    Cmp, DeleteItem, Filter, InsertItem, Lsid, Op, Tag, Token, Ts, Update, UpdateItem, UpdateKind,
+    UpdateOp,
 };
 
 /// The text of a value.
@@ -151,36 +150,159 @@ fn put_refusal(out: &mut String, error: &CrudErr) -> Result<(), AllocError> {
     }
 }
 
-/// What is refused in a message that is read as that command; nothing where it is read.
-pub fn refused_as(alloc: Global, command: Command, frame: &Frame) -> Result<String, AllocError> {
-    let mut out = String::new(alloc);
-    let error = match command {
-        Command::Ping => read_ping(alloc, frame).err(),
-        Command::Statement(statement) => read_op(alloc, statement, frame).err(),
-    };
-    if let Some(error) = error {
-        put_refusal(&mut out, &error)?;
+/// Appends a time as its seconds and its increment, where there is one.
+fn put_time(out: &mut String, word: &str, time: Option<Ts>) -> Result<(), AllocError> {
+    match time {
+        Some(time) => write!(out, ", {word} {}.{}", time.0 >> 32, time.0 % (1 << 32)),
+        None => Ok(()),
     }
-    Ok(out)
 }
 
-/// What the message asks.
-fn request_of(alloc: Global, frame: &Frame) -> Result<String, AllocError> {
+/// Appends a session, by the hexadecimal digits of its id.
+fn put_session(alloc: Global, out: &mut String, lsid: &Lsid) -> Result<(), AllocError> {
+    match lsid {
+        Lsid::Client(id) => {
+            let digits = hex::encode(alloc, id)?;
+            write!(out, " {}", digits.as_str())
+        }
+        Lsid::Own { .. } => out.push_str(" its own"),
+    }
+}
+
+/// Appends the transaction that a command is of.
+fn put_txn(alloc: Global, out: &mut String, txn: &Option<Txn>) -> Result<(), AllocError> {
+    let Some(txn) = txn else {
+        return Ok(());
+    };
+    out.push_str(", of")?;
+    put_session(alloc, out, &txn.lsid)?;
+    write!(out, " {}", txn.number)?;
+    if txn.start {
+        out.push_str(" from its start")?;
+    }
+    Ok(())
+}
+
+fn put_tag(out: &mut String, tag: &Tag) -> Result<(), AllocError> {
+    write!(out, " {}.{}.{}", tag.router, tag.boot, tag.serial)
+}
+
+/// Appends a recovery token.
+fn put_token(out: &mut String, token: &Option<Token>) -> Result<(), AllocError> {
+    match token {
+        Some(Token::Early { tag }) => {
+            out.push_str(", early")?;
+            put_tag(out, tag)
+        }
+        Some(Token::Placed { tag, shard, boot }) => {
+            out.push_str(", placed")?;
+            put_tag(out, tag)?;
+            write!(out, " shard {shard} boot {boot}")
+        }
+        Some(Token::Other) => out.push_str(", other token"),
+        None => Ok(()),
+    }
+}
+
+/// Appends the time that the client has seen, and that it wants no reply.
+fn put_end(out: &mut String, more: bool, time: Option<Ts>) -> Result<(), AllocError> {
+    put_time(out, "seen", time)?;
+    if more {
+        out.push_str(", more to come")?;
+    }
+    Ok(())
+}
+
+/// Appends a request that is no end of a transaction.
+fn put_request(alloc: Global, out: &mut String, request: &Request) -> Result<(), AllocError> {
+    match request {
+        Request::Ping { more, time } => {
+            out.push_str("ping")?;
+            put_end(out, *more, *time)
+        }
+        Request::Hello {
+            old_name,
+            more,
+            time,
+        } => {
+            out.push_str(if *old_name {
+                "hello by an older name"
+            } else {
+                "hello"
+            })?;
+            put_end(out, *more, *time)
+        }
+        Request::Statement {
+            op,
+            txn,
+            at,
+            after,
+            more,
+            time,
+        } => {
+            put_operation(alloc, out, op)?;
+            put_txn(alloc, out, txn)?;
+            put_time(out, "at", *at)?;
+            put_time(out, "after", *after)?;
+            put_end(out, *more, *time)
+        }
+        Request::Commit { .. } | Request::Abort { .. } | Request::EndSessions { .. } => {
+            put_end_of(alloc, out, request)
+        }
+    }
+}
+
+/// Appends an end of a transaction or of sessions.
+fn put_end_of(alloc: Global, out: &mut String, request: &Request) -> Result<(), AllocError> {
+    match request {
+        Request::Commit {
+            txn,
+            token,
+            more,
+            time,
+        } => {
+            out.push_str("commit")?;
+            put_txn(alloc, out, txn)?;
+            put_token(out, token)?;
+            put_end(out, *more, *time)
+        }
+        Request::Abort { txn, more, time } => {
+            out.push_str("abort")?;
+            put_txn(alloc, out, txn)?;
+            put_end(out, *more, *time)
+        }
+        Request::EndSessions { ids, more, time } => {
+            out.push_str("end")?;
+            for lsid in ids.as_slice() {
+                put_session(alloc, out, lsid)?;
+            }
+            put_end(out, *more, *time)
+        }
+        Request::Ping { .. } | Request::Hello { .. } | Request::Statement { .. } => Ok(()),
+    }
+}
+
+/// What the message asks at that wall.
+fn request_of(alloc: Global, wall: u32, frame: &Frame) -> Result<String, AllocError> {
     let mut out = String::new(alloc);
-    match read_command(alloc, frame) {
-        Ok(Request::Ping) => out.push_str("ping")?,
-        Ok(Request::Statement { op }) => put_operation(alloc, &mut out, &op)?,
+    match read_command(alloc, frame, wall) {
+        Ok(request) => put_request(alloc, &mut out, &request)?,
         Err(CmdErr::Unknown { name }) => with_name(&mut out, "Unknown", &name)?,
         Err(CmdErr::Unacknowledged) => out.push_str("Unacknowledged")?,
+        Err(CmdErr::RetryWrite) => out.push_str("RetryWrite")?,
+        Err(CmdErr::ClusterTimeAhead { secs, wall }) => {
+            write!(out, "ClusterTimeAhead {secs} {wall}")?;
+        }
         Err(CmdErr::Parse(error)) => put_refusal(&mut out, &error)?,
         Err(CmdErr::Memory) => return Err(AllocError),
     }
     Ok(out)
 }
 
-/// What the message of these hexadecimal digits asks.
-pub fn told(alloc: Global, message: &str) -> Result<String, Fail> {
-    let bytes = hex::decode(alloc, message)?;
-    let frame = read_frame(alloc, bytes.as_slice())?;
-    Ok(request_of(alloc, &frame)?)
+/// What the message asks at that wall, in words; or the number of its fault.
+pub fn told(alloc: Global, wall: u32, message: &[u8]) -> Result<String, AllocError> {
+    match read_frame(alloc, message) {
+        Ok(frame) => request_of(alloc, wall, &frame),
+        Err(fault) => format!(in alloc; "fault {}", fault.number()),
+    }
 }
