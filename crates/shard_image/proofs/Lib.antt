@@ -1,0 +1,12 @@
+pub mod Lists
+pub mod Found
+pub mod Changing
+pub mod Sessions
+pub mod Fronts
+pub mod Stores
+pub mod Freed
+pub mod Lookups
+pub mod Counting
+pub mod Steps
+pub mod Decisions
+pub mod Asked
