@@ -1,8 +1,10 @@
 pub mod Bytes
+pub mod Clock
 pub mod Crash
 pub mod FuseDisk
 pub mod Link
 pub mod MemDisk
+pub mod MemNet
 pub mod Memory
 pub mod Past
 pub mod PipeLink

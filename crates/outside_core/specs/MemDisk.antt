@@ -1,5 +1,5 @@
 -- A disk in memory, as contracts see it.
-use Rattle.std.specs.Prelude.{◌≡◌, ◌⊎◌, ◌≤◌, ◌+◌, ℕ, List, length, take}
+use Rattle.std.specs.Prelude.{◌≡◌, ◌⊎◌, ◌≤◌, ℕ, List, length, take}
 use Rattle.std.proofs.Common.{inl, inr, arith}
 use Rattle.outside_core.specs.declared.memory_disk.MemDisk.{MemDisk}
 use Rattle.outside_core.specs.declared.memory_disk.Past.{Past, Start, After'}
