@@ -1,15 +1,15 @@
 ghost use Rattle.std.specs.Prelude.{◌≡◌, IfOk};
 ghost use Rattle.command_parse.specs.Commands.{command_named};
-ghost use Rattle.client_cmd.specs.Commands.{first_name};
+ghost use Rattle.client_cmd.specs.Commands.{first_name, request_of};
 ghost use Rattle.single_node.specs.declared.message.Unserved.TheVariants.{Memory};
-ghost use Rattle.single_node.specs.Messages.{Gives, from_message, from_command, is_transactional, has_transactional, is_unserved, asks};
+ghost use Rattle.single_node.specs.Messages.{Gives, from_message, from_command, is_transactional, has_transactional, is_unserved, asked_by, asks};
 
 use bson_core::{BsonErr, Doc, Name};
 use client_cmd::{CmdErr, Request, read_command};
 use client_reply::Refusal;
 use command_parse::Command;
 use crud_parse::CrudErr;
-use op_msg::{FrameErr, read_frame};
+use op_msg::{Frame, FrameErr, read_frame};
 use std::alloc::{AllocError, Global};
 
 /// The moment of each request, in seconds.
@@ -137,6 +137,13 @@ fn is_unserved(body: &Doc) -> bool
     }
 }
 
+/// Reads the request that a message asks, one that is served.
+fn read_served(alloc: Global, frame: &Frame) -> Result<Request, Unserved>
+    ensures { Gives (λ r. r) result (asked_by (request_of 1 frame.now)) }
+{
+    Ok(read_command(alloc, frame, WALL)?)
+}
+
 /// Reads what a message asks. A request that isn't served yet is refused as one of a command that isn't known.
 pub fn read_request(alloc: Global, message: &[u8]) -> Result<Request, Unserved>
     ensures { Gives (λ r. r) result (asks message.now) }
@@ -146,5 +153,5 @@ pub fn read_request(alloc: Global, message: &[u8]) -> Result<Request, Unserved>
         let name = first_name(alloc, &frame.body)?;
         return Err(Unserved::Told(Refusal::Unknown { name }));
     }
-    Ok(read_command(alloc, &frame, WALL)?)
+    read_served(alloc, &frame)
 }
