@@ -5,25 +5,19 @@ ghost use Rattle.client_reply.specs.Replies.{FitsReply};
 use bson_core::Name;
 use bson_text::print;
 use client_reply::{Refusal, Reply, write_reply};
-use sqlite_items::Items;
 use std::alloc::{AllocError, Global};
-use txn_types::{By, Cause, Id, Ns, OpErr, Tag, Token, Ts, What};
+use std::str::SplitWhitespace;
+use txn_types::{By, Cause, Id, OpErr, Tag, Token, Ts, What};
 
 /// The words of a reply, which are taken from the front. A word that is missing is empty, and one that is no number is 0.
 #[derive(Drop)]
 struct Words<'a> {
-    words: &'a [&'a str],
+    words: SplitWhitespace<'a>,
 }
 
 impl<'a> Words<'a> {
     fn next(&mut self) -> &'a str {
-        match self.words.split_first() {
-            Some((word, rest)) => {
-                self.words = rest;
-                *word
-            }
-            None => "",
-        }
+        self.words.next().unwrap_or("")
     }
 
     fn number(&mut self) -> u64 {
@@ -65,7 +59,7 @@ impl<'a> Words<'a> {
     /// A name, which may be missing.
     fn name(&mut self, alloc: Global) -> Result<Name, AllocError> {
         let word = self.next();
-        if word.contains('\0') {
+        if !Name::fits(word) {
             return Name::from_str(alloc, "");
         }
         Name::from_str(alloc, word)
@@ -233,16 +227,20 @@ fn reply_of(alloc: Global, words: &mut Words) -> Result<Reply, AllocError> {
     }
 }
 
+/// Counts are below it.
+const COUNTS: u64 = 1 << 63;
+
 /// Whether the reply can be told: no count is above 2^63 - 1, and its token has a document.
 fn can_be_told(reply: &Reply) -> bool
     ensures { result ≡ true → FitsReply reply.now }
 {
     match reply {
         Reply::Wrote { n, modified, token } => {
-            if *n >= 1 << 63 || modified.is_some_and(|m| m >= 1 << 63) {
-                return false;
-            }
-            !matches!(token, Some(Token::Other))
+            let fits = match modified {
+                Some(modified) => *modified < COUNTS,
+                None => true,
+            };
+            *n < COUNTS && fits && !matches!(token, Some(Token::Other))
         }
         Reply::Found { token, .. } | Reply::Ended { token } => {
             !matches!(token, Some(Token::Other))
@@ -257,12 +255,8 @@ fn can_be_told(reply: &Reply) -> bool
 
 /// The text of the document by which the reply is told. The words are those of the time and of the reply.
 pub fn reply_text(alloc: Global, line: &str) -> Result<String, AllocError> {
-    let mut words = Vec::new(alloc);
-    for word in line.split_whitespace() {
-        words.push(word)?;
-    }
     let mut words = Words {
-        words: words.as_slice(),
+        words: line.split_whitespace(),
     };
     let time = words.time();
     let reply = reply_of(alloc, &mut words)?;
