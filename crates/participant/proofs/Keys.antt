@@ -83,3 +83,23 @@ keys_stamped tag other stamp [] apart none = refl
 keys_stamped tag other stamp (key ∷ store) apart none =
     row_case key.0 (find (is_of other) (map (restamped tag stamp) key.1)) (find (is_of other) key.1) (written_by other (stamped tag stamp store)) (written_by other store)
     (found_stamped tag other stamp key.1 apart none) (keys_stamped tag other stamp store apart none)
+
+-- behind another stamp of its own
+
+own_case : (tag : Tag) (stamp : Stamp) (v : Version) (b : Bool) → is_of tag v ≡ b → is_some_and (λ writer. same_tag writer tag) (writer_of stamp) ≡ true
+    → is_of tag (cond b (record { stamp = stamp; doc = v.doc }) v) ≡ is_of tag v
+own_case tag stamp v true is own = own ∙ sym is
+own_case tag stamp v false is own = refl
+
+found_restamped : (tag : Tag) (stamp : Stamp) (V : List Version) → is_some_and (λ writer. same_tag writer tag) (writer_of stamp) ≡ true
+    → is_some (find (is_of tag) (map (restamped tag stamp) V)) ≡ is_some (find (is_of tag) V)
+found_restamped tag stamp [] own = refl
+found_restamped tag stamp (v ∷ V) own =
+    some_cond _ _ (restamped tag stamp v) v _ _ (own_case tag stamp v (is_of tag v) refl own) (found_restamped tag stamp V own)
+
+pub keys_restamped : (tag : Tag) (stamp : Stamp) (store : Versions) → is_some_and (λ writer. same_tag writer tag) (writer_of stamp) ≡ true
+    → keys_of tag (stamped tag stamp store) ≡ keys_of tag store
+keys_restamped tag stamp [] own = refl
+keys_restamped tag stamp (key ∷ store) own =
+    row_case key.0 (find (is_of tag) (map (restamped tag stamp) key.1)) (find (is_of tag) key.1) (written_by tag (stamped tag stamp store)) (written_by tag store)
+    (found_restamped tag stamp key.1 own) (keys_restamped tag stamp store own)

@@ -12,3 +12,4 @@ pub mod Votes
 pub mod Merges
 pub mod Expiries
 pub mod Places
+pub mod Forgotten

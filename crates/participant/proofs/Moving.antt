@@ -1,27 +1,34 @@
 -- A part of which one session changes stands as it should.
-use Rattle.std.proofs.Common.{◌≡◌, ℕ, Bool, true, false, cond, List, [], ◌∷◌, Option, Some, None, IsSome, IsSomeAnd, IfSome, find, map, option_map, refl, ap, subst, ◌∙◌, sym}
+use Rattle.std.proofs.Common.{◌≡◌, ℕ, Bool, true, false, cond, not, List, [], ◌∷◌, ◌++◌, filter, Option, Some, None, IsSome, IsSomeAnd, IfSome, find, map, option_map, refl, ap, subst, ◌∙◌, sym}
 use Rattle.txn_types.specs.BySession.{BySession, entry_of, with_entry}
 use Rattle.txn_types.specs.Order.{same_tag, same_lsid, lsid_cmp}
 use Rattle.txn_types.specs.declared.cause.Cause.{Cause}
+use Rattle.txn_types.specs.declared.decision.Decision.{Decision}
+use Rattle.txn_types.specs.declared.decision.Decision.TheVariants as decision
+use Rattle.txn_types.specs.declared.message.Decide.{Decide}
+use Rattle.txn_types.specs.declared.names.Tag.{Tag}
 use Rattle.txn_types.specs.declared.node.Lsid.{Lsid}
 use Rattle.txn_types.proofs.Orders.{lsid_total, lsid_exact}
 use Rattle.txn_semantics.specs.Keyed.{taken_out, Rises}
 use Rattle.txn_semantics.specs.Writes.{place_of}
-use Rattle.session_table.specs.Sessions.{Table, with_state}
+use Rattle.session_table.specs.Sessions.{Table, with_state, commit_time, state_behind, prepared_at}
 use Rattle.session_table.specs.declared.session.Session.{Session}
 use Rattle.session_table.specs.declared.session.SessionState.{SessionState}
 use Rattle.session_table.specs.declared.session.SessionState.TheVariants as state
 use Rattle.version_store.specs.declared.version.Stamp.TheVariants as stamp
-use Rattle.version_store.specs.Versions.{Versions, keys_of, dropped, stamped}
+use Rattle.version_store.specs.Versions.{Versions, keys_of, dropped, stamped, decided}
+use Rattle.version_store.specs.declared.version.Pending.{Pending}
 use Rattle.participant.specs.declared.said.Open.{Open}
-use Rattle.participant.specs.Part.{Part, session, open_of, is_open, ended, aborted, end_live, ends_live}
+use Rattle.participant.specs.Part.{Part, session, open_of, is_open, ended, aborted, end_live, ends_live, without_pending}
+use Rattle.participant.specs.Decide.{decided_part}
 use Rattle.participant.specs.Laws.{ChangesOnly}
-use Rattle.participant.specs.Stands.{StateAt, SessionAt, Stands}
+use Rattle.participant.specs.Stands.{StateAt, SessionAt, Stands, newest_keys, pending_keys, pending_of}
 use Rattle.participant.proofs.Ends.{ended_changes}
 use Rattle.version_store.proofs.Keyed.{found}
-use Rattle.participant.proofs.Keys.{keys_dropped, keys_stamped}
+use Rattle.participant.proofs.Forgotten.{keys_pushed, keys_beside, keys_left, nothing_taken}
+use Rattle.participant.proofs.Keys.{keys_dropped, keys_stamped, keys_restamped}
 use Rattle.participant.proofs.Ordered.{taken_none}
-use Rattle.participant.proofs.Tags.{tag_flip, lsid_self, lsid_same, lsid_flip}
+use Rattle.participant.proofs.Tags.{tag_flip, tag_self, lsid_self, lsid_same, lsid_flip}
 
 -- the keys of an open transaction are as they were
 abbrev SameKeys : Versions → Versions → Option Session → Type 0
@@ -44,6 +51,8 @@ pub record Moves (lsid : Lsid) (p q : Part) : Type 0 where
   pub others : ChangesOnly lsid p q
   pub mine : SessionAt q.store (session q lsid) (open_of q lsid)
   pub keys : (x : Lsid) (t : Session) → same_lsid x lsid ≡ false → session p x ≡ Some t → is_open t.state ≡ true → keys_of t.tag q.store ≡ keys_of t.tag p.store
+  pub pending : (x : Lsid) (t : Session) → same_lsid x lsid ≡ false → session p x ≡ Some t → is_open t.state ≡ true → pending_keys q t.tag ≡ pending_keys p t.tag
+  pub prepared : (s : Session) (at coordinator : ℕ) → session q lsid ≡ Some s → s.state ≡ state.Prepared at coordinator → pending_keys q s.tag ≡ keys_of s.tag q.store
   pub apart : (x : Lsid) (s t : Session) → same_lsid x lsid ≡ false → session q lsid ≡ Some s → session p x ≡ Some t → is_open s.state ≡ true → is_open t.state ≡ true → same_tag s.tag t.tag ≡ false
 
 sessions_case : (lsid : Lsid) (p q : Part) (x : Lsid) (b : Bool) → same_lsid x lsid ≡ b → Stands p → Moves lsid p q → SessionAt q.store (session q x) (open_of q x)
@@ -68,9 +77,22 @@ apart_case lsid p q a b s t false true ha hb stands moves hs ht so to same =
 apart_case lsid p q a b s t false false ha hb stands moves hs ht so to same =
     stands.apart a b s t (sym (moves.others.sessions a ha) ∙ hs) (sym (moves.others.sessions b hb) ∙ ht) so to same
 
+prepared_open : (st : SessionState) (at coordinator : ℕ) → st ≡ state.Prepared at coordinator → is_open st ≡ true
+prepared_open st at coordinator is = ap is_open is
+
+pending_case : (lsid : Lsid) (p q : Part) (x : Lsid) (b : Bool) (s : Session) (at coordinator : ℕ) → same_lsid x lsid ≡ b → Stands p → Moves lsid p q
+    → session q x ≡ Some s → s.state ≡ state.Prepared at coordinator → pending_keys q s.tag ≡ keys_of s.tag q.store
+pending_case lsid p q x true s at coordinator is stands moves there prepared =
+    moves.prepared s at coordinator (subst (λ l. session q l ≡ Some s) (lsid_same x lsid is) there) prepared
+pending_case lsid p q x false s at coordinator is stands moves there prepared =
+    let before : session p x ≡ Some s = sym (moves.others.sessions x is) ∙ there in
+    let so : is_open s.state ≡ true = prepared_open s.state at coordinator prepared in
+    moves.pending x s is before so ∙ stands.pending x s at coordinator before prepared ∙ sym (moves.keys x s is before so)
+
 pub moved : (lsid : Lsid) (p q : Part) → Stands p → Moves lsid p q → Stands q
 moved lsid p q stands moves = record {
   sessions = λ x. sessions_case lsid p q x (same_lsid x lsid) refl stands moves;
+  pending = λ x s at coordinator. pending_case lsid p q x (same_lsid x lsid) s at coordinator refl stands moves;
   apart = λ a b s t. apart_case lsid p q a b s t (same_lsid a lsid) (same_lsid b lsid) refl refl stands moves;
 }
 
@@ -117,6 +139,12 @@ ended_stands p store lsid s st stands r closed keys =
       others = ended_changes lsid p store s st;
       mine = subst (λ o. SessionAt store o (open_of q lsid)) (sym here) (closed_at store now st (open_of q lsid) closed (none_live p lsid r));
       keys = keys;
+      pending = λ x t other ht to. refl;
+      prepared = λ u at coordinator hu prepared.
+          let same : Some now ≡ Some u = sym here ∙ hu in
+          let one : now ≡ u = cc in
+          let wrong : true ≡ false = sym (prepared_open u.state at coordinator prepared) ∙ ap (λ (v : Session). is_open v.state) (sym one) ∙ closed in
+          cc;
       apart = λ x u t other hu ht uo to.
           let same : Some now ≡ Some u = sym here ∙ hu in
           let one : now ≡ u = cc in
@@ -230,8 +258,9 @@ committed p lsid o at table live store stands r is_live mine ht hl hs =
 
 -- it is prepared
 pub prepared_stands : (p : Part) (lsid : Lsid) (o : Open) (at coordinator : ℕ) (table : Table) (live : List (Lsid × Open)) (store : Versions) → Stands p → Rises lsid_cmp p.live → IsSomeAnd (session p lsid) (λ s. s.state ≡ state.Live) → Some o ≡ open_of p lsid
+    → ((s : Session) → session p lsid ≡ Some s → pending_keys p s.tag ≡ keys_of s.tag p.store)
     → IfSome (session p lsid) (λ s. table ≡ with_state p.sessions lsid s (state.Prepared at coordinator)) → live ≡ taken_out lsid_cmp lsid p.live → store ≡ stamped o.tag (stamp.Prepared o.tag at) p.store → Stands (record p { sessions = table; live = live; store = store })
-prepared_stands p lsid o at coordinator table live store stands r is_live mine ht hl hs =
+prepared_stands p lsid o at coordinator table live store stands r is_live mine listed ht hl hs =
     let there = live_there p lsid is_live in
     let s : Session = there.0 in
     let has = live_has p lsid o s there.1 stands is_live mine in
@@ -248,9 +277,137 @@ prepared_stands p lsid o at coordinator table live store stands r is_live mine h
       others = ended_changes lsid p left s st;
       mine = subst (λ o. SessionAt left o (open_of q lsid)) (sym here) (none_live p lsid r);
       keys = λ x t other hx to. keys_stamped s.tag t.tag (stamp.Prepared s.tag at) p.store (two x t other hx to) (tag_flip s.tag t.tag ∙ two x t other hx to);
+      pending = λ x t other hx to. refl;
+      prepared = λ u since other hu prepared.
+          let same : Some now ≡ Some u = sym here ∙ hu in
+          let one : now ≡ u = cc in
+          subst (λ (v : Session). pending_keys q v.tag ≡ keys_of v.tag left) one (listed s there.1 ∙ sym (keys_restamped s.tag (stamp.Prepared s.tag at) p.store (tag_self s.tag)));
       apart = λ x u t other hu hx uo to.
           let same : Some now ≡ Some u = sym here ∙ hu in
           let one : now ≡ u = cc in
           ap (λ (v : Session). same_tag v.tag t.tag) (sym one) ∙ tag_flip s.tag t.tag ∙ two x t other hx to;
     } in
     subst Stands (sym (made p table (with_state p.sessions lsid s st) live (taken_out lsid_cmp lsid p.live) store left table_is hl store_is)) (moved lsid p q stands moves)
+
+-- one more stands among the prepared transactions, of a live one's tag
+pushed_case : (p : Part) (lsid : Lsid) (s : Session) (q : Pending) (x : Lsid) (t : Session) (at coordinator : ℕ) (b : Bool) → same_lsid x lsid ≡ b → Stands p → session p lsid ≡ Some s → s.state ≡ state.Live → q.tag ≡ s.tag
+    → session p x ≡ Some t → t.state ≡ state.Prepared at coordinator → newest_keys t.tag [] (p.pending ++ q ∷ []) ≡ keys_of t.tag p.store
+pushed_case p lsid s q x t at coordinator true is stands there live tag ht prepared =
+    let here : session p lsid ≡ Some t = subst (λ l. session p l ≡ Some t) (lsid_same x lsid is) ht in
+    let same : Some s ≡ Some t = sym there ∙ here in
+    let one : s ≡ t = cc in
+    let wrong : state.Live ≡ state.Prepared at coordinator = sym live ∙ ap (λ (u : Session). u.state) one ∙ prepared in
+    cc
+pushed_case p lsid s q x t at coordinator false is stands there live tag ht prepared =
+    let two : same_tag t.tag s.tag ≡ false = of_two p lsid x s t stands there (is_live_open s.state live) is ht (prepared_open t.state at coordinator prepared) in
+    let other : same_tag q.tag t.tag ≡ false = ap (λ a. same_tag a t.tag) tag ∙ tag_flip s.tag t.tag ∙ two in
+    keys_beside t.tag p.pending q other ∙ stands.pending x t at coordinator ht prepared
+
+pub pushed_stands : (p : Part) (lsid : Lsid) (s : Session) (q : Pending) → Stands p → session p lsid ≡ Some s → s.state ≡ state.Live → q.tag ≡ s.tag → Stands (record p { pending = p.pending ++ q ∷ [] })
+pushed_stands p lsid s q stands there live tag =
+    record {
+      sessions = stands.sessions;
+      pending = λ x t at coordinator. pushed_case p lsid s q x t at coordinator (same_lsid x lsid) refl stands there live tag;
+      apart = stands.apart;
+    }
+
+pending_open : (lsid : Lsid) (q : Pending) (o : Option Open) → Some q ≡ option_map (pending_of lsid) o → (mine : Open) × (o ≡ Some mine) × (q.tag ≡ mine.tag) × (q.keys ≡ map place_of mine.writes)
+pending_open lsid q None is = cc
+pending_open lsid q (Some o) is =
+    let one : q ≡ pending_of lsid o = cc in
+    (o, refl, ap (λ (q : Pending). q.tag) one, ap (λ (q : Pending). q.keys) one)
+
+-- what a live transaction has is put among the prepared ones
+pub record Pushing (p : Part) (lsid : Lsid) (q : Pending) : Type 0 where
+  pub stands : Stands (record p { pending = p.pending ++ q ∷ [] })
+  pub listed : (s : Session) → session p lsid ≡ Some s → newest_keys s.tag [] (p.pending ++ q ∷ []) ≡ keys_of s.tag p.store
+
+pub pushing : (p : Part) (lsid : Lsid) (q : Pending) → Stands p → IsSomeAnd (session p lsid) (λ s. s.state ≡ state.Live) → Some q ≡ option_map (pending_of lsid) (open_of p lsid) → Pushing p lsid q
+pushing p lsid q stands is_live from =
+    let there = live_there p lsid is_live in
+    let mine = pending_open lsid q (open_of p lsid) from in
+    let has = live_has p lsid mine.0 there.0 there.1 stands is_live (sym mine.1) in
+    let tag_is : q.tag ≡ there.0.tag = mine.2 ∙ has.1 in
+    record {
+      stands = pushed_stands p lsid there.0 q stands there.1 there.2 tag_is;
+      listed = λ s is.
+          let same : Some there.0 ≡ Some s = sym there.1 ∙ is in
+          let one : there.0 ≡ s = cc in
+          subst (λ (s : Session). newest_keys s.tag [] (p.pending ++ q ∷ []) ≡ keys_of s.tag p.store) one
+          (keys_pushed there.0.tag p.pending q (ap (λ a. same_tag a there.0.tag) tag_is ∙ tag_self there.0.tag) ∙ mine.3 ∙ has.2);
+    }
+
+-- A decision of a prepared transaction.
+
+prepared_is : (st : SessionState) → IsSome (prepared_at st) → (at : ℕ) × (coordinator : ℕ) × (st ≡ state.Prepared at coordinator)
+prepared_is state.Live h = cc
+prepared_is (state.Prepared at coordinator) h = (at, coordinator, refl)
+prepared_is (state.Committed at) h = cc
+prepared_is state.Released h = cc
+prepared_is (state.Aborted why read_at) h = cc
+
+has_no_open : (p : Part) (lsid : Lsid) (s : Session) (at coordinator : ℕ) → session p lsid ≡ Some s → s.state ≡ state.Prepared at coordinator → Stands p → open_of p lsid ≡ None
+has_no_open p lsid s at coordinator there is stands =
+    let had : SessionAt p.store (Some s) (open_of p lsid) = subst (λ x. SessionAt p.store x (open_of p lsid)) there (stands.sessions lsid) in
+    subst (λ x. StateAt p.store s x (open_of p lsid)) is had
+
+decided_keys : (tag other : Tag) (at : Option ℕ) (store : Versions) → same_tag other tag ≡ false → keys_of other (decided tag at store) ≡ keys_of other store
+decided_keys tag other (Some at) store apart = keys_stamped tag other (stamp.At at) store apart refl
+decided_keys tag other None store apart = keys_dropped tag other store apart
+
+behind_closed : (d : Decision) → is_open (state_behind d) ≡ false
+behind_closed (decision.Commit at) = refl
+behind_closed (decision.Abort shard code) = refl
+
+forgotten_stands : (p : Part) (tag : Tag) → Stands p → ((x : Lsid) (t : Session) → session p x ≡ Some t → is_open t.state ≡ true → same_tag t.tag tag ≡ false) → Stands (without_pending tag p)
+forgotten_stands p tag stands apart =
+    record {
+      sessions = stands.sessions;
+      pending = λ x t at coordinator there prepared. keys_left t.tag tag [] p.pending (apart x t there (prepared_open t.state at coordinator prepared)) ∙ stands.pending x t at coordinator there prepared;
+      apart = stands.apart;
+    }
+
+ended_apart : (p e : Part) (lsid : Lsid) (s now : Session) (x : Lsid) (t : Session) (b : Bool) → same_lsid x lsid ≡ b → Stands p → session p lsid ≡ Some s → is_open s.state ≡ true → ChangesOnly lsid p e → session e lsid ≡ Some now → is_open now.state ≡ false
+    → session e x ≡ Some t → is_open t.state ≡ true → same_tag t.tag s.tag ≡ false
+ended_apart p e lsid s now x t true is stands there so changes here closed ht to =
+    let again : session e lsid ≡ Some t = subst (λ l. session e l ≡ Some t) (lsid_same x lsid is) ht in
+    let same : Some now ≡ Some t = sym here ∙ again in
+    let one : now ≡ t = cc in
+    let wrong : true ≡ false = sym to ∙ ap (λ (u : Session). is_open u.state) (sym one) ∙ closed in
+    cc
+ended_apart p e lsid s now x t false is stands there so changes here closed ht to =
+    of_two p lsid x s t stands there so is (sym (changes.sessions x is) ∙ ht) to
+
+pub record Applying (p : Part) (m : Decide) (s : Session) : Type 0 where
+  pub keys : pending_keys p s.tag ≡ keys_of s.tag p.store
+  pub there : IsSome (session p m.lsid)
+  pub gives : (table : Table) (pending : List Pending) (store : Versions) → IfSome (session p m.lsid) (λ s. table ≡ with_state p.sessions m.lsid s (state_behind m.decision)) → pending ≡ filter (λ other. not (same_tag other.tag s.tag)) p.pending → store ≡ decided s.tag (commit_time m.decision) p.store
+      → record p { sessions = table; pending = pending; store = store } ≡ decided_part p m s
+  pub stands : Stands (decided_part p m s)
+
+made_decided : (p : Part) (table table2 : Table) (live live2 : List (Lsid × Open)) (pending pending2 : List Pending) (store store2 : Versions) → table ≡ table2 → live ≡ live2 → pending ≡ pending2 → store ≡ store2
+    → (let a : Part = record p { sessions = table; live = live; pending = pending; store = store } in a) ≡ (let b : Part = record p { sessions = table2; live = live2; pending = pending2; store = store2 } in b)
+made_decided p table table2 live live2 pending pending2 store store2 a b c d =
+    ap (λ (t : Table). let x : Part = record p { sessions = t; live = live; pending = pending; store = store } in x) a
+    ∙ ap (λ (l : List (Lsid × Open)). let x : Part = record p { sessions = table2; live = l; pending = pending; store = store } in x) b
+    ∙ ap (λ (q : List Pending). let x : Part = record p { sessions = table2; live = live2; pending = q; store = store } in x) c
+    ∙ ap (λ (v : Versions). let x : Part = record p { sessions = table2; live = live2; pending = pending2; store = v } in x) d
+
+pub applying : (p : Part) (m : Decide) (s : Session) → session p m.lsid ≡ Some s → Stands p → Rises lsid_cmp p.live → IsSomeAnd (session p m.lsid) (λ s. IsSome (prepared_at s.state)) → Applying p m s
+applying p m s there stands r is_prepared =
+    let prepared : IsSome (prepared_at s.state) = subst (λ x. IsSomeAnd x (λ s. IsSome (prepared_at s.state))) there is_prepared in
+    let st = prepared_is s.state prepared in
+    let so : is_open s.state ≡ true = prepared_open s.state st.0 st.1 st.2 in
+    let none : open_of p m.lsid ≡ None = has_no_open p m.lsid s st.0 st.1 there st.2 stands in
+    let left : Versions = decided s.tag (commit_time m.decision) p.store in
+    let now : Session = record { number = s.number; tag = s.tag; state = state_behind m.decision } in
+    let e : Part = ended (record p { store = left }) m.lsid s (state_behind m.decision) in
+    let e_stands : Stands e = ended_stands p left m.lsid s (state_behind m.decision) stands r (behind_closed m.decision) (λ x t other ht to. decided_keys s.tag t.tag (commit_time m.decision) p.store (of_two p m.lsid x s t stands there so other ht to)) in
+    record {
+      keys = stands.pending m.lsid s st.0 st.1 there st.2;
+      there = subst IsSome (sym there) refl;
+      gives = λ table pending store ht hp hs.
+          let table_is : table ≡ with_state p.sessions m.lsid s (state_behind m.decision) = if_there (λ (s : Session). table ≡ with_state p.sessions m.lsid s (state_behind m.decision)) (session p m.lsid) s there ht in
+          made_decided p table (with_state p.sessions m.lsid s (state_behind m.decision)) p.live (taken_out lsid_cmp m.lsid p.live) pending (filter (λ other. not (same_tag other.tag s.tag)) p.pending) store left table_is (sym (nothing_taken m.lsid p.live none)) hp hs;
+      stands = forgotten_stands e s.tag e_stands (λ x t. ended_apart p e m.lsid s now x t (same_lsid x m.lsid) refl stands there so (ended_changes m.lsid p left s (state_behind m.decision)) (entry_here m.lsid now p.sessions.entries) (behind_closed m.decision));
+    }

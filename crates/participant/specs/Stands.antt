@@ -1,10 +1,11 @@
 -- What the calls of a shard's part need of it, and keep: of all that belongs to a part, the keys of the transactions that
--- are live, and that each open one is of one session.
-use Rattle.std.specs.Prelude.{◌≡◌, ◌-◌, ℕ, min, nat_lt, Bool, true, false, List, [], ◌∷◌, map, Option, Some, None}
+-- are live or prepared, and that each such one is of one session.
+use Rattle.std.specs.Prelude.{◌≡◌, ◌-◌, ℕ, min, nat_lt, Bool, true, false, List, [], ◌∷◌, map, Option, Some, None, if◌then◌else◌}
 use Rattle.txn_types.specs.Order.{same_tag, same_lsid}
+use Rattle.txn_types.specs.declared.names.Tag.{Tag}
 use Rattle.txn_types.specs.declared.node.Lsid.{Lsid}
 use Rattle.txn_types.specs.declared.write.Write.{Write}
-use Rattle.txn_semantics.specs.Writes.{place_of}
+use Rattle.txn_semantics.specs.Writes.{Place, place_of}
 use Rattle.session_table.specs.declared.session.Session.{Session}
 use Rattle.session_table.specs.declared.session.SessionState.{SessionState}
 use Rattle.session_table.specs.declared.session.SessionState.TheVariants as state
@@ -27,9 +28,20 @@ abbrev pub SessionAt : Versions → Option Session → Option Open → Type 0
 SessionAt store None o = o ≡ None
 SessionAt store (Some s) o = StateAt store s s.state o
 
--- each session has what its state says, and open transactions of one tag are of one session
+-- the keys of the newest prepared transaction of a tag, or these where there is none
+abbrev pub newest_keys : Tag → List Place → List Pending → List Place
+newest_keys tag keys [] = keys
+newest_keys tag keys (q ∷ pending) = newest_keys tag (if same_tag q.tag tag then q.keys else keys) pending
+
+-- the keys of a tag among the prepared transactions
+abbrev pub pending_keys : Part → Tag → List Place
+pending_keys p tag = newest_keys tag [] p.pending
+
+-- each session has what its state says; one whose transaction is prepared has its keys among the prepared ones; and open
+-- transactions of one tag are of one session
 pub record Stands (p : Part) : Type 0 where
   pub sessions : (lsid : Lsid) → SessionAt p.store (session p lsid) (open_of p lsid)
+  pub pending : (lsid : Lsid) (s : Session) (at coordinator : ℕ) → session p lsid ≡ Some s → s.state ≡ state.Prepared at coordinator → pending_keys p s.tag ≡ keys_of s.tag p.store
   pub apart : (a b : Lsid) (s t : Session) → session p a ≡ Some s → session p b ≡ Some t → is_open s.state ≡ true → is_open t.state ≡ true → same_tag s.tag t.tag ≡ true → same_lsid a b ≡ true
 
 -- whether a transaction wrote here

@@ -1,9 +1,10 @@
-//! A shard's part in transactions: commit, prepare, abort, recovery and expiry; and, for the statements and decisions to
+//! A shard's part in transactions: commit, prepare, decision, abort, recovery and expiry; and, for the statements to
 //! come, what an operation touches and the write set of a transaction.
 #![tactic(auto)]
 
 mod clock;
 mod committing;
+mod deciding;
 mod ending;
 mod expiring;
 mod key;

@@ -56,7 +56,9 @@ impl Participant {
         }
     }
 
-    /// A part that starts again with what an image has. No session is live, and the prepared ones are those of `pending`.
+    /// A part that starts again with what an image has. Its condition implies that no session is live, that the newest
+    /// of `pending` with the tag of a prepared session has the keys of its versions, and that no two sessions are
+    /// prepared with one tag.
     pub fn of(
         alloc: Global,
         shard: u16,

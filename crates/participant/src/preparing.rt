@@ -5,11 +5,11 @@ ghost use Rattle.txn_semantics.specs.Writes.{place_of};
 ghost use Rattle.journal_rec.specs.declared.record.Rec.TheVariants as rec;
 ghost use Rattle.session_table.specs.declared.session.Session.{Session};
 ghost use Rattle.session_table.specs.declared.session.SessionState.TheVariants as state;
-ghost use Rattle.version_store.specs.Versions.{prepared};
+ghost use Rattle.version_store.specs.Versions.{prepared, keys_of};
 ghost use Rattle.participant.specs.declared.said.Open.{Open};
 ghost use Rattle.participant.specs.Part.{session, open_of, ended, is_replaced};
 ghost use Rattle.participant.specs.Prepare.{prepare, prepares_live, prepares_open, vetoes};
-ghost use Rattle.participant.specs.Stands.{pending_of};
+ghost use Rattle.participant.specs.Stands.{pending_of, pending_keys};
 
 use crate::clock::{is_at_end, next_tick};
 use crate::merging::copied_keys;
@@ -184,7 +184,8 @@ impl Participant {
 
     /// The transaction is prepared at this time; the record of it.
     fn prepare_at(&mut self, m: &Prepare, at: Ts) -> Option<Rec>
-        requires { IsSomeAnd (session self.old m.now.lsid) (λ s. s.state ≡ state.Live) }
+        requires live { IsSomeAnd (session self.old m.now.lsid) (λ s. s.state ≡ state.Live) }
+        requires listed { (s : Session) → session self.old m.now.lsid ≡ Some s → pending_keys self.old s.tag ≡ keys_of s.tag self.old.store }
         ensures rec { (s : Session) (o : Open) → session self.old m.now.lsid ≡ Some s → open_of self.old m.now.lsid ≡ Some o → result ≡ Some (rec.Prepared s.tag m.now.lsid s.number self.old.boot o.read_at at m.now.coordinator o.writes) }
         ensures part { (s : Session) → session self.old m.now.lsid ≡ Some s → self.new ≡ ended (record self.old { store = prepared s.tag at self.old.store }) m.now.lsid s (state.Prepared at m.now.coordinator) }
     {
