@@ -22,18 +22,35 @@ const USAGE: &str = "usage: mtx play < SCHEDULE";
 /// How many bytes a word may have; none of a command is so long.
 const LONGEST: usize = 256;
 
-/// The words of the command line behind the program's name, but for one that is too long or isn't UTF-8: that is given as
-/// the empty word, which is no command's either.
+/// The text of the bytes, or an empty one where they aren't UTF-8.
+fn text_of(alloc: Global, bytes: &[u8]) -> Result<String, AllocError> {
+    match std::str::from_utf8(bytes) {
+        Ok(text) => String::from_str(alloc, text),
+        Err(_) => Ok(String::new(alloc)),
+    }
+}
+
+/// The word at that place. One that is too long or isn't UTF-8 is given as the empty word, which is no command's either.
+fn word_at<E: Env>(alloc: Global, env: &E, place: usize) -> Result<Option<String>, AllocError> {
+    let mut room = [0u8; LONGEST];
+    match env.arg(place, &mut room) {
+        Ok(length) => {
+            let word = text_of(alloc, &room[..length])?;
+            Ok(Some(word))
+        }
+        Err(FillError::TooLong) => Ok(Some(String::new(alloc))),
+        Err(FillError::NotPresent) => Ok(None),
+    }
+}
+
+/// The words of the command line after the program's name.
 fn words_of<E: Env>(alloc: Global, env: &E) -> Result<Vec<String>, AllocError> {
     let mut words = Vec::new(alloc);
-    let mut room = [0u8; LONGEST];
     for place in 1..usize::MAX {
-        let word = match env.arg(place, &mut room) {
-            Ok(length) => std::str::from_utf8(&room[..length]).unwrap_or(""),
-            Err(FillError::TooLong) => "",
-            Err(FillError::NotPresent) => break,
-        };
-        words.push(String::from_str(alloc, word)?)?;
+        match word_at(alloc, env, place)? {
+            Some(word) => words.push(word)?,
+            None => break,
+        }
     }
     Ok(words)
 }
