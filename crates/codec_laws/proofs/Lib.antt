@@ -1,0 +1,4 @@
+pub mod Keys
+pub mod Levels
+pub mod Spelt
+pub mod Apart

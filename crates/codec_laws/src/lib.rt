@@ -1,0 +1,6 @@
+//! Laws of the formats, which a reader can hold against their definitions: ids have the order of values; each document has
+//! one spelling at most, in the grammar's own terms and at any depth.
+#![tactic(auto)]
+
+pub mod ids;
+pub mod spellings;
