@@ -1,10 +1,10 @@
 -- Bytes are those of one document at most, at any depth, and no document's are a proper front of another's.
-use Rattle.std.proofs.Common.{◌≡◌, ℕ, ◌+◌, ◌≤◌, ◌<◌, ◌^◌, max, List, [], ◌++◌, length, map, Result, Ok, refl, sym, ap, ◌∙◌, arith}
+use Rattle.std.proofs.Common.{◌≡◌, ℕ, ◌≤◌, max, List, [], ◌++◌, Result, Ok, sym, ap, ◌∙◌, arith}
 use Rattle.std.proofs.lemmas.List.{append-nil}
 use Rattle.bson_core.specs.declared.error.BsonErr.{BsonErr}
 use Rattle.bson_core.specs.Fields.{Document}
 use Rattle.bson_core.specs.Spelling.{framed}
-use Rattle.bson_core.specs.Grammar.{ReadsAt, ReadsElements, Reads}
+use Rattle.bson_core.specs.Grammar.{ReadsAt, ReadsElements}
 use Rattle.bson_core.specs.Nesting.{nesting}
 use Rattle.bson_core.specs.Reading.{value_by, nested_at, document_at}
 use Rattle.bson_core.proofs.Sound.{ok_is}

@@ -1,13 +1,12 @@
 -- The levels of a value are those within which its bytes are read.
-use Rattle.std.proofs.Common.{◌≡◌, ℕ, zero, suc, ◌-◌, ◌+◌, ◌≤◌, ◌<◌, ◌^◌, max, List, [], ◌∷◌, ◌++◌, length, map, refl, sym, ap, subst, ◌∙◌, arith}
-use Rattle.std.proofs.lemmas.List.{append-nil}
+use Rattle.std.proofs.Common.{◌≡◌, ℕ, zero, suc, ◌-◌, ◌+◌, ◌≤◌, List, [], ◌∷◌, map, refl, sym, ap, subst, ◌∙◌, arith}
 use Rattle.bson_core.specs.declared.value.Value.{Value}
 use Rattle.bson_core.specs.declared.value.Value.TheOpen as of
 use Rattle.bson_core.specs.declared.value.Value.TheOpen.{Value-F}
-use Rattle.bson_core.specs.declared.value.Value.TheViews.{roll-Value, out-Value, out-roll-Value, roll-out-Value}
+use Rattle.bson_core.specs.declared.value.Value.TheViews.{roll-Value, out-Value, roll-out-Value}
 use Rattle.bson_core.specs.declared.value.Value.TheFolds.{fold-roll-Value}
 use Rattle.bson_core.specs.Fields.{Document}
-use Rattle.bson_core.specs.Grammar.{Relation, values_of, reads_leaf, reads_step, ReadsAt, ReadsElements, IsFramed, Reads}
+use Rattle.bson_core.specs.Grammar.{Relation, values_of, reads_leaf, reads_step, ReadsAt, ReadsElements, Reads}
 use Rattle.bson_core.specs.Nesting.{greatest, levels_step, levels, nesting}
 use Rattle.codec_laws.specs.Spells.{IsRead}
 
@@ -28,7 +27,7 @@ levels_fields : (fields : Document) → map (λ (field : List ℕ × ℕ). field
 levels_fields [] = refl
 levels_fields (field ∷ fields) = ap (λ (ns : List ℕ). levels field.1 ∷ ns) (levels_fields fields)
 
-levels_rolled : (x : Value-F Value) → levels (roll-Value x) ≡ levels_of x
+pub levels_rolled : (x : Value-F Value) → levels (roll-Value x) ≡ levels_of x
 levels_rolled (of.Doc fields) = fold-roll-Value ℕ levels_step (of.Doc fields) ∙ ap (λ (ns : List ℕ). 1 + greatest ns) (levels_fields fields)
 levels_rolled x = fold-roll-Value ℕ levels_step x
 
@@ -55,7 +54,7 @@ step_deeper m n deeper (of.List values) kind bytes le h =
     (h.0, (h.1.0, (h.1.1.0, h.1.1.1, elements_deeper m n deeper h.1.1.0 h.1.0 (subst (λ (vs : List Value). greatest (map levels vs) ≤ n) (sym h.1.1.1) le) h.1.1.2), h.1.2, h.1.3))
 step_deeper m n deeper x kind bytes le h = h
 
-flat_step : (reads : Value → Relation) (x : Value-F Value) (kind : ℕ) (bytes : List ℕ) → levels_of x ≤ 0 → reads_step reads x kind bytes → reads_leaf x kind bytes
+pub flat_step : (reads : Value → Relation) (x : Value-F Value) (kind : ℕ) (bytes : List ℕ) → levels_of x ≤ 0 → reads_step reads x kind bytes → reads_leaf x kind bytes
 flat_step reads (of.Doc fields) kind bytes le h = absurd (omega arith)
 flat_step reads (of.List values) kind bytes le h = absurd (omega arith)
 flat_step reads x kind bytes le h = h
@@ -108,3 +107,6 @@ pub nesting_within : (levels : ℕ) (d : Document) (bytes : List ℕ) → 1 ≤ 
 nesting_within n d bytes some h =
     let le = elements_within (n - 1) (within (n - 1)) d h.0 h.1 in
     omega (arith, le)
+
+pub is_read : (levels : ℕ) (d : Document) (bytes : List ℕ) → Reads levels d bytes → IsRead d bytes
+is_read n d bytes h = (n - 1, h)

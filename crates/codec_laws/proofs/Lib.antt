@@ -2,3 +2,4 @@ pub mod Keys
 pub mod Levels
 pub mod Spelt
 pub mod Apart
+pub mod Written

@@ -1,5 +1,5 @@
 -- A spelling in the grammar's terms is the spelling.
-use Rattle.std.proofs.Common.{◌≡◌, ℕ, zero, suc, ◌-◌, ◌+◌, ◌≤◌, ◌<◌, ◌^◌, List, [], ◌∷◌, ◌++◌, length, map, refl, sym, ap, subst, ◌∙◌, arith}
+use Rattle.std.proofs.Common.{◌≡◌, ℕ, zero, suc, ◌+◌, ◌≤◌, List, [], ◌∷◌, ◌++◌, length, map, refl, sym, ap, subst, ◌∙◌, arith}
 use Rattle.std.specs.Fmt.{decimal}
 use Rattle.bson_core.specs.declared.value.Value.{Value}
 use Rattle.bson_core.specs.declared.value.Value.TheOpen as of
@@ -9,11 +9,10 @@ use Rattle.bson_core.specs.declared.value.Value.TheViews.{roll-Value, out-Value,
 use Rattle.bson_core.specs.declared.value.Value.TheFolds.{fold-roll-Value}
 use Rattle.bson_core.specs.Fields.{Document}
 use Rattle.bson_core.specs.Spelling.{Coded, coded_step, coded, element, elements, numbered, framed, spelling}
-use Rattle.bson_core.specs.Grammar.{Relation, values_of, reads_leaf, reads_step, ReadsAt, ReadsElements, IsFramed, Reads}
+use Rattle.bson_core.specs.Grammar.{Relation, values_of, reads_leaf, reads_step, ReadsAt, ReadsElements}
 use Rattle.bson_core.specs.Written.{most}
 use Rattle.bson_core.proofs.Lengths.{length_framed}
 use Rattle.bson_core.proofs.Spelled.{coded_doc, coded_list}
-use Rattle.bson_core.proofs.Apart.{no_front}
 use Rattle.codec_laws.specs.Spells.{named_by_place, spells_step, SpellsAt, Spells, IsRead}
 
 -- The bytes of a value.

@@ -1,12 +1,16 @@
 -- The spelling of a document, in the terms of the grammar of BSON 1.1 (bsonspec.org): bytes that are the document, where the
 -- values of each list have the names "0", "1" and so on. A reader takes any names there.
-use Rattle.std.specs.Prelude.{◌≡◌, ℕ, zero, suc, ◌+◌, List, [], ◌∷◌}
+use Rattle.std.specs.Prelude.{◌≡◌, ℕ, zero, suc, ◌+◌, ◌≤◌, List, [], ◌∷◌, length}
 use Rattle.std.specs.Fmt.{decimal}
 use Rattle.bson_core.specs.declared.value.Value.{Value}
 use Rattle.bson_core.specs.declared.value.Value.TheOpen as of
 use Rattle.bson_core.specs.declared.value.Value.TheOpen.{Value-F}
 use Rattle.bson_core.specs.declared.value.Value.TheViews.{out-Value}
 use Rattle.bson_core.specs.Fields.{Document}
+use Rattle.bson_core.specs.Names.{IsName}
+use Rattle.bson_core.specs.Nesting.{levels}
+use Rattle.bson_core.specs.Spelling.{coded}
+use Rattle.bson_core.specs.Written.{most}
 use Rattle.bson_core.specs.Grammar.{Relation, ReadsElements, ReadsAt, IsFramed, reads_leaf}
 
 -- values under the names of their places, from this one on
@@ -32,3 +36,11 @@ Spells doc bytes = (levels : ℕ) × IsFramed (ReadsElements (SpellsAt levels) d
 -- these bytes, all of them, are this document under any names in its lists, however deep it is
 abbrev pub IsRead : Document → List ℕ → Type 0
 IsRead doc bytes = (levels : ℕ) × IsFramed (ReadsElements (ReadsAt levels) doc) bytes
+
+-- the bytes of a value are its spelling, where its length allows it, within as many levels as it has
+abbrev pub IsSpelt : Value → Type 0
+IsSpelt value = (depth : ℕ) → levels value ≤ depth → length (coded value).1 ≤ most → SpellsAt depth value (coded value).0 (coded value).1
+
+-- a name, and a value that is spelt so
+abbrev pub IsFieldSpelt : List ℕ × Value → Type 0
+IsFieldSpelt field = IsName field.0 × IsSpelt field.1
