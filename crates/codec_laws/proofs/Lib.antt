@@ -3,3 +3,7 @@ pub mod Levels
 pub mod Spelt
 pub mod Apart
 pub mod Written
+pub mod Places
+pub mod Outer
+pub mod Contents
+pub mod Headers
