@@ -7,3 +7,4 @@ pub mod Places
 pub mod Outer
 pub mod Contents
 pub mod Headers
+pub mod Framed

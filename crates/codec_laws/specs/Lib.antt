@@ -1,2 +1,3 @@
 pub mod Spells
 pub mod Faults
+pub mod Messages
