@@ -8,3 +8,4 @@ pub mod Outer
 pub mod Contents
 pub mod Headers
 pub mod Framed
+pub mod Firsts
