@@ -7,3 +7,5 @@ pub mod Places
 pub mod Outer
 pub mod Contents
 pub mod Headers
+pub mod Framed
+pub mod Firsts

@@ -4,4 +4,5 @@
 
 pub mod faults;
 pub mod ids;
+pub mod messages;
 pub mod spellings;
