@@ -21,10 +21,10 @@ pub fn a_document_s_fault_is_there()
     ensures count { (limit : ℕ) (bytes : List ℕ) → 5 ≤ length bytes → number_from 0 bytes ≤ min limit most → number_from 0 bytes ≢ length bytes → document_of limit bytes ≡ Err (document.Length 0) }
 {}
 
-/// The first fault of a document's elements is told, whatever stands behind it: of a type byte, of a name, of a truth value, of a 00
-/// too early or of a level too many, in the document or in one that it holds, behind elements that are well formed.
+/// The first fault of a document is told, in the document or in one that it holds: what stands behind elements that are well formed
+/// and isn't, whatever follows it; or a last byte that isn't 00 behind them all.
 pub fn the_first_fault_is_told()
-    ensures { (limit : ℕ) (elements : List ℕ) (last : ℕ) (e : BsonErr) → length elements + 5 ≤ min limit most → IsFirst 99 e 0 elements
+    ensures { (limit : ℕ) (elements : List ℕ) (last : ℕ) (e : BsonErr) → length elements + 5 ≤ min limit most → IsFirst 99 e 0 elements last
         → document_of limit (to_le_bytes w32 (length elements + 5) ++ elements ++ last ∷ []) ≡ Err e }
 {}
 
