@@ -38,7 +38,7 @@ fn copy_tags(alloc: Global, tags: &Tags) -> Result<Tags, AllocError>
     Items::from_slice(alloc, tags.as_slice())
 }
 
-fn copy_told(alloc: Global, reply: &Option<Reply>) -> Result<Option<Reply>, AllocError>
+pub fn copy_told(alloc: Global, reply: &Option<Reply>) -> Result<Option<Reply>, AllocError>
     ensures { IfOk result (λ r. r ≡ reply.now) }
 {
     match reply {

@@ -8,7 +8,7 @@ mod shards;
 mod state;
 mod table;
 
-pub use copies::{copy_answers, copy_participants, copy_posts};
+pub use copies::{copy_answers, copy_participants, copy_posts, copy_told};
 pub use deed::{Deed, Given, Sent, in_session, told, told_if};
 pub use sessions::{entry_of, is_waiting};
 pub use shards::{
