@@ -350,10 +350,10 @@ holds_tells levels e tells end p value is le h =
     (tells end h.0 h.1 h.2 (subst (λ (b : List ℕ). length b ≤ end) h.3 le) h.4 (subst (λ (k : ℕ). IsFirst levels e k h.0 h.1) start h.5))
 
 -- what may stand behind well-formed elements
-abbrev Deepest : BsonErr → ℕ → ℕ → List ℕ → Type 0
+abbrev pub Deepest : BsonErr → ℕ → ℕ → List ℕ → Type 0
 Deepest e start place bytes = IsAtHead start place bytes e ⊎ HoldsNest (IsTooDeep e) place bytes
 
-abbrev Higher : ℕ → BsonErr → ℕ → ℕ → List ℕ → Type 0
+abbrev pub Higher : ℕ → BsonErr → ℕ → ℕ → List ℕ → Type 0
 Higher levels e start place bytes = IsAtHead start place bytes e ⊎ (HoldsNest (HasWrongCount e) place bytes ⊎ HoldsNest (Holds (IsFirst levels e)) place bytes)
 
 first_fails : (levels : ℕ) (e : BsonErr) → Tells levels e

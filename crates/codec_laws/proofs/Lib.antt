@@ -9,3 +9,5 @@ pub mod Contents
 pub mod Headers
 pub mod Framed
 pub mod Firsts
+pub mod Only
+pub mod Exactly

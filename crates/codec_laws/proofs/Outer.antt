@@ -10,7 +10,7 @@ use Rattle.bson_core.specs.Reading.{number_at, fixed_at, document_of}
 use Rattle.codec_laws.specs.Faults.{number_from, IsThere}
 use Rattle.codec_laws.proofs.Places.{IsInside, SaneEnd, whole_sane}
 
-front_number : (bytes : List ℕ) → 5 ≤ length bytes → fixed_at w32 bytes ≡ Ok (number_from 0 bytes, drop 4 bytes)
+pub front_number : (bytes : List ℕ) → 5 ≤ length bytes → fixed_at w32 bytes ≡ Ok (number_from 0 bytes, drop 4 bytes)
 unfolding number_at
 front_number bytes long = rw (le-ltb (length bytes) 4 (omega arith)) refl
 

@@ -1,6 +1,6 @@
 -- The first fault of a document, in the grammar's terms: behind elements that are well formed stands one that isn't, or one
 -- whose value holds such a fault; or the last byte is wrong behind them all. What follows doesn't matter.
-use Rattle.std.specs.Prelude.{◌≡◌, ◌≢◌, ◌⊎◌, ◌<◌, ℕ, zero, suc, ◌+◌, ◌-◌, ◌^◌, true, false, List, ◌∷◌, ◌++◌, length, None, is_some}
+use Rattle.std.specs.Prelude.{◌≡◌, ◌≢◌, ◌⊎◌, ◌<◌, ◌≤◌, min, [], ℕ, zero, suc, ◌+◌, ◌-◌, ◌^◌, true, false, List, ◌∷◌, ◌++◌, length, None, is_some}
 use Rattle.std.specs.Int.{w32, to_le_bytes}
 use Rattle.std.specs.Str.{is_utf8}
 use Rattle.bson_core.specs.declared.error.BsonErr.{BsonErr}
@@ -9,6 +9,8 @@ use Rattle.bson_core.specs.Fields.{Document}
 use Rattle.bson_core.specs.Grammar.{ReadsElements, ReadsAt}
 use Rattle.bson_core.specs.Kinds.{kind_of}
 use Rattle.bson_core.specs.Names.{has_no_zero, IsName}
+use Rattle.bson_core.specs.Written.{most}
+use Rattle.codec_laws.specs.Faults.{number_from}
 
 -- a type byte, a name, and what follows it
 abbrev pub headed : ℕ → List ℕ → List ℕ → List ℕ
@@ -105,3 +107,22 @@ IsFirst zero e start elements last =
 IsFirst (suc levels) e start elements last =
     Behind (suc levels) (λ place bytes. IsAtHead start place bytes e ⊎ (HoldsNest (HasWrongCount e) place bytes ⊎ HoldsNest (Holds (IsFirst levels e)) place bytes)) start elements
     ⊎ IsWrongEnd (suc levels) e start elements last
+
+-- The whole: fewer than 5 bytes; a count above the limit; a count that isn't that of the bytes; or the first fault of what they
+-- count.
+
+abbrev pub IsShort : List ℕ → BsonErr → Type 0
+IsShort bytes e = (e ≡ fault.Short) × (length bytes < 5)
+
+abbrev pub IsAboveLimit : ℕ → List ℕ → BsonErr → Type 0
+IsAboveLimit limit bytes e = (e ≡ fault.TooLarge) × (5 ≤ length bytes) × (min limit most < number_from 0 bytes)
+
+abbrev pub HasOtherLength : ℕ → List ℕ → BsonErr → Type 0
+HasOtherLength limit bytes e = (e ≡ fault.Length 0) × (5 ≤ length bytes) × (number_from 0 bytes ≤ min limit most) × (number_from 0 bytes ≢ length bytes)
+
+abbrev pub HasFirst : ℕ → List ℕ → BsonErr → Type 0
+HasFirst limit bytes e =
+    (elements : List ℕ) × (last : ℕ) × (bytes ≡ to_le_bytes w32 (length elements + 5) ++ elements ++ last ∷ []) × (length elements + 5 ≤ min limit most) × IsFirst 99 e 0 elements last
+
+abbrev pub IsTold : ℕ → List ℕ → BsonErr → Type 0
+IsTold limit bytes e = (IsShort bytes e ⊎ IsAboveLimit limit bytes e) ⊎ (HasOtherLength limit bytes e ⊎ HasFirst limit bytes e)

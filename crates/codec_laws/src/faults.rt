@@ -1,32 +1,26 @@
-//! A law is the contract of a function with an empty body.
-ghost use Rattle.std.specs.Prelude.{◌≡◌, ◌≢◌, ◌≤◌, ◌<◌, ◌+◌, ◌++◌, ◌∷◌, [], List, ℕ, Err, length, min};
-ghost use Rattle.std.specs.Int.{w32, to_le_bytes};
+//! A law is the contract of a function that changes nothing and gives nothing.
+ghost use Rattle.std.specs.Prelude.{◌≡◌, ◌↔◌, ◌<◌, List, ℕ, Err, length};
 ghost use Rattle.bson_core.specs.declared.error.BsonErr.{BsonErr};
-ghost use Rattle.bson_core.specs.declared.error.BsonErr.TheVariants as document;
 ghost use Rattle.bson_core.specs.Reading.{document_of};
-ghost use Rattle.bson_core.specs.Written.{most};
 ghost use Rattle.op_msg.specs.Reading.{frame_of};
 ghost use Rattle.op_msg.specs.declared.frame.FrameErr.{FrameErr};
 ghost use Rattle.op_msg.specs.declared.frame.FrameErr.TheVariants as message;
-ghost use Rattle.codec_laws.specs.First.{IsFirst};
-ghost use Rattle.codec_laws.specs.Faults.{number_from, IsThere, HasItsLength, HasOtherCode, IsLeastUnknown, IsFramed, IsSaid};
+ghost use Rattle.codec_laws.specs.First.{IsTold};
+ghost use Rattle.codec_laws.specs.Faults.{IsThere, HasItsLength, HasOtherCode, IsLeastUnknown, IsFramed, IsSaid};
 
-/// A document's fault is there: its place is one of the bytes, and of the byte there it says what is so. Fewer than 5 bytes
-/// are `Short`; a count above the limit is `TooLarge`, whatever else is wrong; and one that isn't that of the bytes is `Length`
-/// at 0. Reading never tells want of memory.
+/// A document's fault is there: its place is one of the bytes, and of the byte there it says what is so. Reading never tells want of
+/// memory.
 pub fn a_document_s_fault_is_there()
-    ensures there { (limit : ℕ) (bytes : List ℕ) (e : BsonErr) → document_of limit bytes ≡ Err e → IsThere limit bytes e }
-    ensures short { (limit : ℕ) (bytes : List ℕ) → length bytes < 5 → document_of limit bytes ≡ Err document.Short }
-    ensures too_large { (limit : ℕ) (bytes : List ℕ) → 5 ≤ length bytes → min limit most < number_from 0 bytes → document_of limit bytes ≡ Err document.TooLarge }
-    ensures count { (limit : ℕ) (bytes : List ℕ) → 5 ≤ length bytes → number_from 0 bytes ≤ min limit most → number_from 0 bytes ≢ length bytes → document_of limit bytes ≡ Err (document.Length 0) }
+    ensures { (limit : ℕ) (bytes : List ℕ) (e : BsonErr) → document_of limit bytes ≡ Err e → IsThere limit bytes e }
 {}
 
-/// The first fault of a document is told, in the document or in one that it holds: what stands behind elements that are well formed
-/// and isn't, whatever follows it; or a last byte that isn't 00 behind them all.
-pub fn the_first_fault_is_told()
-    ensures { (limit : ℕ) (elements : List ℕ) (last : ℕ) (e : BsonErr) → length elements + 5 ≤ min limit most → IsFirst 99 e 0 elements last
-        → document_of limit (to_le_bytes w32 (length elements + 5) ++ elements ++ last ∷ []) ≡ Err e }
-{}
+/// A fault is told of bytes exactly where it is their first: they are too few, their count is above the limit or not theirs, or it
+/// stands first among the elements of the document, or of one that it holds, behind elements that are well formed.
+pub fn the_first_fault_is_told(bytes: &[u8])
+    ensures { (limit : ℕ) (e : BsonErr) → (document_of limit bytes.now ≡ Err e) ↔ IsTold limit bytes.now e }
+{
+    let _len = bytes.len();
+}
 
 /// A message's fault is what the bytes say. `Length`, `OpCode` and `Flags` come exactly where theirs stand and none of those before
 /// does: first the length, then 400,000,000 bytes, then the operation, then the flags. Reading never tells want of memory.
