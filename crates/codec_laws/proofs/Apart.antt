@@ -1,4 +1,5 @@
--- Bytes are those of one document at most, at any depth, and no document's are a proper front of another's.
+-- Bytes are those of one document at most, at any depth, and no document's are a proper front of
+-- another's.
 use Rattle.std.proofs.Common.{◌≡◌, ℕ, ◌≤◌, max, List, [], ◌++◌, Result, Ok, sym, ap, ◌∙◌, arith}
 use Rattle.std.proofs.lemmas.List.{append-nil}
 use Rattle.bson_core.specs.declared.error.BsonErr.{BsonErr}

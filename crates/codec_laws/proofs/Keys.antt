@@ -1,4 +1,5 @@
--- Ids have the order of the values that they are: an id is compared by what its value is compared by.
+-- Ids have the order of the values that they are: an id is compared by what its value is compared
+-- by.
 use Rattle.std.proofs.Common.{◌≡◌, true, false, List, [], Option, Some, refl, ap, sym, subst, ◌∙◌}
 use Rattle.std.specs.declared.cmp.Ordering.{Ordering}
 use Rattle.std.specs.declared.cmp.Ordering.TheVariants.{Less, Equal, Greater}

@@ -1,5 +1,5 @@
--- What the faults of documents and of messages say of the bytes that were to be read, in the words of BSON 1.1 (bsonspec.org)
--- and of the MongoDB wire protocol.
+-- What the faults of documents and of messages say of the bytes that were to be read, in the words
+-- of BSON 1.1 (bsonspec.org) and of the MongoDB wire protocol.
 use Rattle.std.specs.Prelude.{◌≡◌, ◌≢◌, ℕ, ◌≤◌, ◌<◌, ◌^◌, min, true, false, List, length, take, drop, slice_index, None}
 use Rattle.std.specs.Int.{w32, from_le_bytes}
 use Rattle.bson_core.specs.declared.error.BsonErr.{BsonErr}
@@ -14,8 +14,9 @@ use Rattle.op_msg.specs.declared.frame.FrameErr.TheVariants as message
 abbrev pub number_from : ℕ → List ℕ → ℕ
 number_from place bytes = from_le_bytes w32 (take 4 (drop place bytes))
 
--- what a document's fault says of the bytes, with a limit on their number: a place is one of theirs, or behind the last; at
--- that of a kind stands the byte, which is no kind's; at that of a truth value a byte above 1
+-- what a document's fault says of the bytes, with a limit on their number: a place is one of
+-- theirs, or behind the last; at that of a kind stands the byte, which is no kind's; at that of a
+-- truth value a byte above 1
 abbrev pub IsThere : ℕ → List ℕ → BsonErr → Type 0
 IsThere limit bytes document.Short = Unit {0}
 IsThere limit bytes (document.Length at) = at ≤ length bytes
@@ -26,7 +27,8 @@ IsThere limit bytes (document.Deep at) = at ≤ length bytes
 IsThere limit bytes document.TooLarge = (5 ≤ length bytes) × (min limit most < number_from 0 bytes)
 IsThere limit bytes document.Memory = ⊥
 
--- there are the 16 bytes of a header, and its first number, an int32 that isn't negative, is that of all bytes
+-- there are the 16 bytes of a header, and its first number, an int32 that isn't negative, is that
+-- of all bytes
 pub record HasItsLength (bytes : List ℕ) : Type 0 where
   pub header : 16 ≤ length bytes
   pub positive : length bytes < 2 ^ 31
@@ -41,7 +43,8 @@ pub record HasOtherCode (bytes : List ℕ) : Type 0 where
   pub message : op_code bytes ≢ 2013
   pub query : op_code bytes ≢ 2004
 
--- of an OP_MSG's flags, which stand behind its header, this one is the least of those from 2 to 15 that are set
+-- of an OP_MSG's flags, which stand behind its header, this one is the least of those from 2 to 15
+-- that are set
 pub record IsLeastUnknown (bit : ℕ) (bytes : List ℕ) : Type 0 where
   pub message : op_code bytes ≡ 2013
   pub there : 20 ≤ length bytes

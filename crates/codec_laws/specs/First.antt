@@ -1,5 +1,6 @@
--- The first fault of a document, in the grammar's terms: behind elements that are well formed stands one that isn't, or one
--- whose value holds such a fault; or the last byte is wrong behind them all. What follows doesn't matter.
+-- The first fault of a document, in the grammar's terms: behind elements that are well formed
+-- stands one that isn't, or one whose value holds such a fault; or the last byte is wrong behind
+-- them all. What follows doesn't matter.
 use Rattle.std.specs.Prelude.{◌≡◌, ◌≢◌, ◌⊎◌, ◌<◌, ◌≤◌, min, [], ℕ, zero, suc, ◌+◌, ◌-◌, ◌^◌, true, false, List, ◌∷◌, ◌++◌, length, None, is_some}
 use Rattle.std.specs.Int.{w32, to_le_bytes}
 use Rattle.std.specs.Str.{is_utf8}
@@ -33,8 +34,8 @@ IsNoName place bytes (fault.Text at) =
     (kind : ℕ) × (name : List ℕ) × (rest : List ℕ) × (bytes ≡ headed kind name rest) × (is_some (kind_of kind) ≡ true) × (has_no_zero name ≡ true) × (is_utf8 name ≡ false) × (at ≡ place + 1)
 IsNoName place bytes other = ⊥
 
--- how many bytes the values of a kind have, where they all have as many: object ids, truth values, moments, int32,
--- timestamps, int64
+-- how many bytes the values of a kind have, where they all have as many: object ids, truth values,
+-- moments, int32, timestamps, int64
 pub data HasWidth : ℕ → ℕ → Type 0 where
   oid : HasWidth 7 12
   truth : HasWidth 8 1
@@ -53,7 +54,8 @@ pub data IsWrongCount : ℕ → ℕ → ℕ → Type 0 where
 abbrev pub IsCounted : ℕ → Type 0
 IsCounted kind = (kind ≡ 2) ⊎ (kind ≡ 5)
 
--- these bytes, to the end of their holder, begin with no value of the kind, which is neither a document nor a list
+-- these bytes, to the end of their holder, begin with no value of the kind, which is neither a
+-- document nor a list
 abbrev pub IsNoValue : ℕ → ℕ → List ℕ → BsonErr → Type 0
 IsNoValue kind place bytes fault.Short = (width : ℕ) × HasWidth kind width × (length bytes < width)
 IsNoValue kind place bytes (fault.Length at) =
@@ -100,7 +102,8 @@ Behind levels There start elements =
 abbrev pub IsWrongEnd : ℕ → BsonErr → ℕ → List ℕ → ℕ → Type 0
 IsWrongEnd levels e start elements last = (e ≡ fault.Length start) × ((fields : Document) × ReadsElements (ReadsAt levels) fields elements) × (last ≢ 0)
 
--- this is the first fault of a document whose count stands at `start`, which may hold so many levels
+-- this is the first fault of a document whose count stands at `start`, which may hold so many
+-- levels
 unfoldable pub IsFirst : ℕ → BsonErr → ℕ → List ℕ → ℕ → Type 0
 IsFirst zero e start elements last =
     Behind zero (λ place bytes. IsAtHead start place bytes e ⊎ HoldsNest (IsTooDeep e) place bytes) start elements ⊎ IsWrongEnd zero e start elements last
@@ -108,8 +111,8 @@ IsFirst (suc levels) e start elements last =
     Behind (suc levels) (λ place bytes. IsAtHead start place bytes e ⊎ (HoldsNest (HasWrongCount e) place bytes ⊎ HoldsNest (Holds (IsFirst levels e)) place bytes)) start elements
     ⊎ IsWrongEnd (suc levels) e start elements last
 
--- The whole: fewer than 5 bytes; a count above the limit; a count that isn't that of the bytes; or the first fault of what they
--- count.
+-- The whole: fewer than 5 bytes; a count above the limit; a count that isn't that of the bytes; or
+-- the first fault of what they count.
 
 abbrev pub IsShort : List ℕ → BsonErr → Type 0
 IsShort bytes e = (e ≡ fault.Short) × (length bytes < 5)

@@ -1,5 +1,6 @@
--- The spelling of a document, in the terms of the grammar of BSON 1.1 (bsonspec.org): bytes that are the document, where the
--- values of each list have the names "0", "1" and so on. A reader takes any names there.
+-- The spelling of a document, in the terms of the grammar of BSON 1.1 (bsonspec.org): bytes that
+-- are the document, where the values of each list have the names "0", "1" and so on. A reader takes
+-- any names there.
 use Rattle.std.specs.Prelude.{◌≡◌, ℕ, zero, suc, ◌+◌, ◌≤◌, List, [], ◌∷◌, length}
 use Rattle.std.specs.Fmt.{decimal}
 use Rattle.bson_core.specs.declared.value.Value.{Value}
@@ -37,7 +38,8 @@ Spells doc bytes = (levels : ℕ) × IsFramed (ReadsElements (SpellsAt levels) d
 abbrev pub IsRead : Document → List ℕ → Type 0
 IsRead doc bytes = (levels : ℕ) × IsFramed (ReadsElements (ReadsAt levels) doc) bytes
 
--- the bytes of a value are its spelling, where its length allows it, within as many levels as it has
+-- the bytes of a value are its spelling, where its length allows it, within as many levels as it
+-- has
 abbrev pub IsSpelt : Value → Type 0
 IsSpelt value = (depth : ℕ) → levels value ≤ depth → length (coded value).1 ≤ most → SpellsAt depth value (coded value).0 (coded value).1
 

@@ -8,23 +8,25 @@ ghost use Rattle.op_msg.specs.declared.frame.FrameErr.TheVariants as message;
 ghost use Rattle.codec_laws.specs.First.{IsTold};
 ghost use Rattle.codec_laws.specs.Faults.{IsThere, HasItsLength, HasOtherCode, IsLeastUnknown, IsFramed, IsSaid};
 
-/// A document's fault is there: its place is one of the bytes, and of the byte there it says what is so. Reading never tells want of
-/// memory.
-pub fn a_document_s_fault_is_there()
+/// A document's fault is there: its place is one of the bytes, and of the byte there it says what
+/// is so. Reading never tells want of memory.
+pub fn faults_of_documents_are_there()
     ensures { (limit : ℕ) (bytes : List ℕ) (e : BsonErr) → document_of limit bytes ≡ Err e → IsThere limit bytes e }
 {}
 
-/// A fault is told of bytes exactly where it is their first: they are too few, their count is above the limit or not theirs, or it
-/// stands first among the elements of the document, or of one that it holds, behind elements that are well formed.
+/// A fault is told of bytes exactly where it is their first: they are too few, their count is above
+/// the limit or not theirs, or it stands first among the elements of the document, or of one that
+/// it holds, behind elements that are well formed.
 pub fn the_first_fault_is_told(bytes: &[u8])
     ensures { (limit : ℕ) (e : BsonErr) → (document_of limit bytes.now ≡ Err e) ↔ IsTold limit bytes.now e }
 {
     let _len = bytes.len();
 }
 
-/// A message's fault is what the bytes say. `Length`, `OpCode` and `Flags` come exactly where theirs stand and none of those before
-/// does: first the length, then 400,000,000 bytes, then the operation, then the flags. Reading never tells want of memory.
-pub fn a_message_s_fault_is_said()
+/// A message's fault is what the bytes say. `Length`, `OpCode` and `Flags` come exactly where
+/// theirs stand and none of those before does: first the length, then 400,000,000 bytes, then the
+/// operation, then the flags. Reading never tells want of memory.
+pub fn faults_of_messages_are_said()
     ensures said { (bytes : List ℕ) (e : FrameErr) → frame_of bytes ≡ Err e → IsSaid bytes e }
     ensures length { (bytes : List ℕ) → ¬ HasItsLength bytes → frame_of bytes ≡ Err message.Length }
     ensures too_large { (bytes : List ℕ) → HasItsLength bytes → 400000000 < length bytes → frame_of bytes ≡ Err message.TooLarge }

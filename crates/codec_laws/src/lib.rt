@@ -1,5 +1,6 @@
-//! Laws of the formats, which a reader can hold against their definitions: ids have the order of values; each document has
-//! one spelling at most, in the grammar's own terms and at any depth; the faults of documents and messages say what is so.
+//! Laws of the formats, which a reader can hold against their definitions: ids have the order of
+//! values; each document has one spelling at most, in the grammar's own terms and at any depth; the
+//! faults of documents and messages say what is so.
 #![tactic(auto)]
 
 pub mod faults;

@@ -1,5 +1,5 @@
-//! A law is the contract of a function that changes nothing and gives nothing. Where facts that belong to the types of the
-//! parts are wanted, the function goes through the parts.
+//! A law is the contract of a function that changes nothing and gives nothing. Where facts that
+//! belong to the types of the parts are wanted, the function goes through the parts.
 ghost use Rattle.std.specs.Prelude.{◌≡◌, ◌↔◌, ◌≤◌, ◌<◌, ◌^◌, ◌++◌, List, ℕ, [], Ok, length, FitsSigned};
 ghost use Rattle.std.specs.Int.{w32, w64};
 ghost use Rattle.std.specs.List.{All};
@@ -79,15 +79,16 @@ fn values_are_spelt(values: &[Value])
     }
 }
 
-/// A document has a spelling exactly where its bytes are as many as an int32 counts; then it is `spelling`.
+/// A document has a spelling exactly where its bytes are as many as an int32 counts; then it is
+/// `spelling`.
 pub fn a_document_has_its_spelling(doc: &Doc)
     ensures { (bytes : List ℕ) → Spells doc.now bytes ↔ ((bytes ≡ spelling doc.now) × (length bytes ≤ most)) }
 {
     fields_are_spelt(doc.as_slice());
 }
 
-/// A document has one spelling at most, which is `spelling`, and no longer than an int32 counts. It is the bytes of that
-/// document, and no proper front of another's.
+/// A document has one spelling at most, which is `spelling`, and no longer than an int32 counts. It
+/// is the bytes of that document, and no proper front of another's.
 pub fn a_spelling_is_the_only_one()
     ensures is { (d : Document) (bytes : List ℕ) → Spells d bytes → bytes ≡ spelling d }
     ensures short { (d : Document) (bytes : List ℕ) → Spells d bytes → length bytes ≤ most }
@@ -102,7 +103,8 @@ pub fn levels_are_nesting()
     ensures one { (a b : Document) (bytes : List ℕ) → IsRead a bytes → IsRead b bytes → a ≡ b }
 {}
 
-/// Reading gives a document exactly where the bytes are that document, at whatever depth, and limit and nesting allow it.
+/// Reading gives a document exactly where the bytes are that document, at whatever depth, and limit
+/// and nesting allow it.
 pub fn reading_is_the_grammar(bytes: &[u8], limit: u32)
     ensures { (d : Document) → (document_of limit bytes.now ≡ Ok d) ↔ (IsRead d bytes.now × (nesting d ≤ 100) × (length bytes.now ≤ limit)) }
 {

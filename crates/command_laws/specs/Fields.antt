@@ -1,4 +1,5 @@
--- Messages beside one another that differ in one field, and the fields that a command takes no notice of.
+-- Messages beside one another that differ in one field, and the fields that a command takes no
+-- notice of.
 use Rattle.std.specs.Prelude.{ℕ, ◌&&◌, Bool, true, false, not, List, [], ◌∷◌, map, Option, Some, codes}
 use Rattle.std.specs.Str.{bytes_eq}
 use Rattle.bson_core.specs.declared.value.Value.{Value}

@@ -14,8 +14,8 @@ abbrev pub ArePassed : Command → List Field → Type 0
 ArePassed c [] = Unit {0}
 ArePassed c (field ∷ fields) = IsPassed c field × ArePassed c fields
 
--- the command is known, the sender wants an answer, it is no write to be retried, its times are near, and no field that
--- counts is refused
+-- the command is known, the sender wants an answer, it is no write to be retried, its times are
+-- near, and no field that counts is refused
 pub record IsElseRight (wall : ℕ) (frame : Frame) : Type 0 where
   pub command : Command
   pub known : command_in frame ≡ Ok command

@@ -36,6 +36,7 @@ abbrev pub AllAmong : (Place → ℕ) → List ℕ → List Write → Type 0
 AllAmong shard_of shards [] = Unit {0}
 AllAmong shard_of shards (write ∷ writes) = (list_any (nat_eq (shard_of (place_of write))) shards ≡ true) × AllAmong shard_of shards writes
 
--- what each shard has of a transaction's writes, the last to each document, one shard behind the other
+-- what each shard has of a transaction's writes, the last to each document, one shard behind the
+-- other
 abbrev pub shares : (Place → ℕ) → List ℕ → List Write → List Write
 shares shard_of shards writes = flat_map (λ s. write_set (writes_at (stands_at shard_of s) writes)) shards

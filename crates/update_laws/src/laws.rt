@@ -11,7 +11,8 @@ ghost use Rattle.txn_types.specs.declared.update.Update.TheVariants.{Replace, Op
 ghost use Rattle.txn_semantics.specs.Updates.{apply, applied, without_name};
 ghost use Rattle.update_laws.specs.Others.{NoneNamed, fields_of};
 
-/// Operators leave the fields of other names, with what stands under a name more than once, in their order.
+/// Operators leave the fields of other names, with what stands under a name more than once, in
+/// their order.
 pub fn other_fields_stay()
     ensures { (kept : List ℕ → Bool) (ops : List UpdateOp) (doc new : Document) → NoneNamed kept ops → apply (Ops ops) doc ≡ Ok new → fields_of kept new ≡ fields_of kept doc }
 {}
@@ -24,7 +25,8 @@ pub fn operators_do_what_they_say()
     ensures zero64 { (name : List ℕ) (n : ℤ) (doc : Document) → FitsSigned w64 n → value_of name doc ≡ Some (values.Long n) → applied Inc name (values.Int (pos 0)) doc ≡ Ok doc }
 {}
 
-/// A document that replaces another has the old `_id`, where there is one, and its own other fields in their order.
+/// A document that replaces another has the old `_id`, where there is one, and its own other fields
+/// in their order.
 pub fn a_replacement_keeps_the_id()
     ensures id { (other doc new : Document) → apply (Replace other) doc ≡ Ok new → value_of id_name new ≡ value_of id_name doc }
     ensures fields { (other doc new : Document) → apply (Replace other) doc ≡ Ok new → without_name id_name new ≡ without_name id_name other }

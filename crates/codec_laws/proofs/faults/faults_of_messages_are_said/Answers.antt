@@ -1,5 +1,5 @@
 use Rattle.codec_laws.proofs.Headers.{fault_is_said, length_fault, large_fault, code_fault, flags_fault}
-use Rattle.codec_laws.proofs.faults.a_message_s_fault_is_said.Goals as goal
+use Rattle.codec_laws.proofs.faults.faults_of_messages_are_said.Goals as goal
 
 pub returns-clause-said : goal.returns-clause-said
 returns-clause-said c = fault_is_said
