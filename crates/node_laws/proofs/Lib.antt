@@ -1,0 +1,9 @@
+pub mod Bytes
+pub mod Filters
+pub mod Ids
+pub mod Messages
+pub mod Numbers
+pub mod Operations
+pub mod Parts
+pub mod Told
+pub mod Transactions

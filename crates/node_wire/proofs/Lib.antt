@@ -1,0 +1,5 @@
+pub mod FilterBytes
+pub mod Joined
+pub mod Lengths
+pub mod Namespaces
+pub mod Turns

@@ -1,0 +1,4 @@
+pub mod Errors
+pub mod Output
+pub mod Spelling
+pub mod Reading
