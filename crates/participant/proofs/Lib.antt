@@ -13,3 +13,11 @@ pub mod Merges
 pub mod Expiries
 pub mod Places
 pub mod Forgotten
+pub mod Inserted
+pub mod Written
+pub mod Ids
+pub mod Rows
+pub mod Elsewhere
+pub mod Laid
+pub mod Rules
+pub mod Statements

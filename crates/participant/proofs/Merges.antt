@@ -14,7 +14,7 @@ kept_in (first ∷ writes) (suc i) write all below = kept_in writes i write all.
 pub kept_at : (writes : List Write) (i : ℕ) (write : Write) → AllKept writes → i < length writes → write ≡ get_or writes i write → IsKept write
 kept_at writes i write all below is = subst IsKept (sym is) (kept_in writes i write all below)
 
-laid-append : (rows : List (Place × Write)) (xs ys : List Write) → laid place_cmp rows (map placed (xs ++ ys)) ≡ laid place_cmp (laid place_cmp rows (map placed xs)) (map placed ys)
+pub laid-append : (rows : List (Place × Write)) (xs ys : List Write) → laid place_cmp rows (map placed (xs ++ ys)) ≡ laid place_cmp (laid place_cmp rows (map placed xs)) (map placed ys)
 laid-append rows [] ys = refl
 laid-append rows (x ∷ xs) ys = laid-append (put place_cmp (place_of x) x rows) xs ys
 

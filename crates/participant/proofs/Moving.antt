@@ -8,6 +8,7 @@ use Rattle.txn_types.specs.declared.decision.Decision.TheVariants as decision
 use Rattle.txn_types.specs.declared.message.Decide.{Decide}
 use Rattle.txn_types.specs.declared.names.Tag.{Tag}
 use Rattle.txn_types.specs.declared.node.Lsid.{Lsid}
+use Rattle.txn_types.specs.declared.write.Write.{Write}
 use Rattle.txn_types.proofs.Orders.{lsid_total, lsid_exact}
 use Rattle.txn_semantics.specs.Keyed.{taken_out, Rises}
 use Rattle.txn_semantics.specs.Writes.{place_of}
@@ -22,13 +23,15 @@ use Rattle.participant.specs.declared.said.Open.{Open}
 use Rattle.participant.specs.Part.{Part, session, open_of, is_open, ended, aborted, end_live, ends_live, without_pending}
 use Rattle.participant.specs.Decide.{decided_part}
 use Rattle.participant.specs.Laws.{ChangesOnly}
-use Rattle.participant.specs.Stands.{StateAt, SessionAt, Stands, newest_keys, pending_keys, pending_of}
+use Rattle.participant.specs.Stands.{StateAt, SessionAt, Stands, IsClosed, HaveIds, newest_keys, pending_keys, pending_of, has_written, has_writes}
 use Rattle.participant.proofs.Ends.{ended_changes}
 use Rattle.version_store.proofs.Keyed.{found}
 use Rattle.participant.proofs.Forgotten.{keys_pushed, keys_beside, keys_left, nothing_taken}
+use Rattle.participant.proofs.Ids.{ids_dropped, ids_stamped, ids_decided}
 use Rattle.participant.proofs.Keys.{keys_dropped, keys_stamped, keys_restamped}
 use Rattle.participant.proofs.Ordered.{taken_none}
-use Rattle.participant.proofs.Tags.{tag_flip, tag_self, lsid_self, lsid_same, lsid_flip}
+use Rattle.participant.proofs.Tags.{tag_flip, tag_same, tag_self, lsid_self, lsid_same, lsid_flip}
+use Rattle.participant.proofs.Written.{keys_gone, keys_committed, keys_decided}
 
 -- the keys of an open transaction are as they were
 abbrev SameKeys : Versions → Versions → Option Session → Type 0
@@ -54,6 +57,8 @@ pub record Moves (lsid : Lsid) (p q : Part) : Type 0 where
   pub pending : (x : Lsid) (t : Session) → same_lsid x lsid ≡ false → session p x ≡ Some t → is_open t.state ≡ true → pending_keys q t.tag ≡ pending_keys p t.tag
   pub prepared : (s : Session) (at coordinator : ℕ) → session q lsid ≡ Some s → s.state ≡ state.Prepared at coordinator → pending_keys q s.tag ≡ keys_of s.tag q.store
   pub apart : (x : Lsid) (s t : Session) → same_lsid x lsid ≡ false → session q lsid ≡ Some s → session p x ≡ Some t → is_open s.state ≡ true → is_open t.state ≡ true → same_tag s.tag t.tag ≡ false
+  pub owned : (tag : Tag) → IsClosed q tag → keys_of tag q.store ≡ []
+  pub ids : HaveIds q.store
 
 sessions_case : (lsid : Lsid) (p q : Part) (x : Lsid) (b : Bool) → same_lsid x lsid ≡ b → Stands p → Moves lsid p q → SessionAt q.store (session q x) (open_of q x)
 sessions_case lsid p q x true is stands moves = subst (λ l. SessionAt q.store (session q l) (open_of q l)) (sym (lsid_same x lsid is)) moves.mine
@@ -94,7 +99,22 @@ moved lsid p q stands moves = record {
   sessions = λ x. sessions_case lsid p q x (same_lsid x lsid) refl stands moves;
   pending = λ x s at coordinator. pending_case lsid p q x (same_lsid x lsid) s at coordinator refl stands moves;
   apart = λ a b s t. apart_case lsid p q a b s t (same_lsid a lsid) (same_lsid b lsid) refl refl stands moves;
+  owned = moves.owned;
+  ids = moves.ids;
 }
+
+-- a tag that no session has open behind the change, and not the session that changes before it, no session had open
+closed_case : (lsid : Lsid) (p q : Part) (tag : Tag) (x : Lsid) (t : Session) (b : Bool) → same_lsid x lsid ≡ b → ChangesOnly lsid p q → IsClosed q tag → ((s : Session) → session p lsid ≡ Some s → is_open s.state ≡ true → same_tag s.tag tag ≡ false)
+    → session p x ≡ Some t → is_open t.state ≡ true → same_tag t.tag tag ≡ false
+closed_case lsid p q tag x t true is changes closed own there still = own t (subst (λ l. session p l ≡ Some t) (lsid_same x lsid is) there) still
+closed_case lsid p q tag x t false is changes closed own there still = closed x t (changes.sessions x is ∙ there) still
+
+pub closed_before : (lsid : Lsid) (p q : Part) (tag : Tag) → ChangesOnly lsid p q → IsClosed q tag → ((s : Session) → session p lsid ≡ Some s → is_open s.state ≡ true → same_tag s.tag tag ≡ false) → IsClosed p tag
+closed_before lsid p q tag changes closed own x t there still = closed_case lsid p q tag x t (same_lsid x lsid) refl changes closed own there still
+
+-- the session that stands there
+pub one_session : (p : Part) (lsid : Lsid) (s t : Session) → session p lsid ≡ Some s → session p lsid ≡ Some t → s ≡ t
+one_session p lsid s t hs ht = let same : Some s ≡ Some t = sym hs ∙ ht in cc
 
 -- The session that changes.
 
@@ -117,7 +137,7 @@ of_two p lsid x s t stands hs so other ht to = apart_from (same_tag t.tag s.tag)
 
 -- What ends a transaction.
 
-closed_at : (store : Versions) (s : Session) (st : SessionState) (o : Option Open) → is_open st ≡ false → o ≡ None → StateAt store s st o
+pub closed_at : (store : Versions) (s : Session) (st : SessionState) (o : Option Open) → is_open st ≡ false → o ≡ None → StateAt store s st o
 closed_at store s state.Live o closed none = let wrong : true ≡ false = closed in cc
 closed_at store s (state.Prepared at coordinator) o closed none = none
 closed_at store s (state.Committed at) o closed none = none
@@ -127,10 +147,17 @@ closed_at store s (state.Aborted why read_at) o closed none = none
 pub none_live : (p : Part) (lsid : Lsid) → Rises lsid_cmp p.live → entry_of lsid (taken_out lsid_cmp lsid p.live) ≡ None
 none_live p lsid r = sym (found lsid_cmp lsid (taken_out lsid_cmp lsid p.live)) ∙ taken_none lsid_cmp lsid_total lsid_exact lsid p.live r
 
-pub ended_stands : (p : Part) (store : Versions) (lsid : Lsid) (s : Session) (st : SessionState) → Stands p → Rises lsid_cmp p.live → is_open st ≡ false
-    → ((x : Lsid) (t : Session) → same_lsid x lsid ≡ false → session p x ≡ Some t → is_open t.state ≡ true → keys_of t.tag store ≡ keys_of t.tag p.store)
-    → Stands (ended (record p { store = store }) lsid s st)
-ended_stands p store lsid s st stands r closed keys =
+-- nobody's versions stand behind the end of a transaction whose own are gone
+owned_case : (p q : Part) (store : Versions) (lsid : Lsid) (s : Session) (tag : Tag) (b : Bool) → same_tag tag s.tag ≡ b → Stands p → ChangesOnly lsid p q → session p lsid ≡ Some s → keys_of s.tag store ≡ []
+    → ((other : Tag) → same_tag other s.tag ≡ false → keys_of other store ≡ keys_of other p.store) → IsClosed q tag → keys_of tag store ≡ []
+owned_case p q store lsid s tag true is stands changes there own rest closed = ap (λ (t : Tag). keys_of t store) (tag_same tag s.tag is) ∙ own
+owned_case p q store lsid s tag false is stands changes there own rest closed =
+    rest tag is
+    ∙ stands.owned tag (closed_before lsid p q tag changes closed (λ t here still. ap (λ (u : Session). same_tag u.tag tag) (one_session p lsid t s here there) ∙ tag_flip s.tag tag ∙ is))
+
+pub ended_stands : (p : Part) (store : Versions) (lsid : Lsid) (s : Session) (st : SessionState) → Stands p → Rises lsid_cmp p.live → is_open st ≡ false → session p lsid ≡ Some s → is_open s.state ≡ true → keys_of s.tag store ≡ []
+    → ((other : Tag) → same_tag other s.tag ≡ false → keys_of other store ≡ keys_of other p.store) → HaveIds store → Stands (ended (record p { store = store }) lsid s st)
+ended_stands p store lsid s st stands r closed there so own rest ids =
     let now : Session = record { number = s.number; tag = s.tag; state = st } in
     let q : Part = ended (record p { store = store }) lsid s st in
     let here : session q lsid ≡ Some now = entry_here lsid now p.sessions.entries in
@@ -138,7 +165,7 @@ ended_stands p store lsid s st stands r closed keys =
     (record {
       others = ended_changes lsid p store s st;
       mine = subst (λ o. SessionAt store o (open_of q lsid)) (sym here) (closed_at store now st (open_of q lsid) closed (none_live p lsid r));
-      keys = keys;
+      keys = λ x t other ht to. rest t.tag (of_two p lsid x s t stands there so other ht to);
       pending = λ x t other ht to. refl;
       prepared = λ u at coordinator hu prepared.
           let same : Some now ≡ Some u = sym here ∙ hu in
@@ -150,6 +177,8 @@ ended_stands p store lsid s st stands r closed keys =
           let one : now ≡ u = cc in
           let wrong : true ≡ false = sym uo ∙ ap (λ (v : Session). is_open v.state) (sym one) ∙ closed in
           cc;
+      owned = λ tag shut. owned_case p q store lsid s tag (same_tag tag s.tag) refl stands (ended_changes lsid p store s st) there own rest shut;
+      ids = ids;
     })
 
 -- a live transaction ends with a cause
@@ -166,7 +195,7 @@ live_state p s o st is h = subst (λ x. StateAt p.store s x (Some o)) is h
 is_live_open : (st : SessionState) → st ≡ state.Live → is_open st ≡ true
 is_live_open st is = ap is_open is
 
-made : (p : Part) (table table2 : Table) (live live2 : List (Lsid × Open)) (store store2 : Versions) → table ≡ table2 → live ≡ live2 → store ≡ store2
+pub made : (p : Part) (table table2 : Table) (live live2 : List (Lsid × Open)) (store store2 : Versions) → table ≡ table2 → live ≡ live2 → store ≡ store2
     → (let a : Part = record p { sessions = table; live = live; store = store } in a) ≡ (let b : Part = record p { sessions = table2; live = live2; store = store2 } in b)
 made p table table2 live live2 store store2 a b c =
     ap (λ (t : Table). let x : Part = record p { sessions = t; live = live; store = store } in x) a
@@ -187,7 +216,7 @@ ending_case p lsid why o (Some s) is stands r live mine =
           let table_is : table ≡ with_state p.sessions lsid s (state.Aborted why 0) = subst (λ x. IfSome x (λ s. table ≡ with_state p.sessions lsid s (state.Aborted why 0))) is ht in
           made p table (with_state p.sessions lsid s (state.Aborted why 0)) live (taken_out lsid_cmp lsid p.live) store (dropped s.tag p.store) table_is hl (hs ∙ ap (λ tag. dropped tag p.store) both.0)
           ∙ sym told;
-      stands = subst Stands (sym told) (ended_stands p (dropped s.tag p.store) lsid s (state.Aborted why 0) stands r refl (λ x t other ht to. keys_dropped s.tag t.tag p.store (of_two p lsid x s t stands is so other ht to)));
+      stands = subst Stands (sym told) (ended_stands p (dropped s.tag p.store) lsid s (state.Aborted why 0) stands r refl is so (keys_gone s.tag p.store) (λ other apart. keys_dropped s.tag other p.store apart) (ids_dropped s.tag p.store stands.ids));
     }
 
 pub ending : (p : Part) (lsid : Lsid) (why : Cause) (o : Open) → Stands p → Rises lsid_cmp p.live → IsSomeAnd (session p lsid) (λ s. s.state ≡ state.Live) → Some o ≡ open_of p lsid → Ending p lsid why o
@@ -230,20 +259,34 @@ pub if_there : {A : Type 0} (P : A → Type 0) (o : Option A) (a : A) → o ≡ 
 if_there P o a is h = subst (λ x. IfSome x P) is h
 
 -- An end of a session's live transaction, with these versions.
-pub ended_by : (p : Part) (lsid : Lsid) (s : Session) (st : SessionState) (table : Table) (live : List (Lsid × Open)) (store : Versions) → Stands p → Rises lsid_cmp p.live → is_open st ≡ false → session p lsid ≡ Some s
-    → IfSome (session p lsid) (λ s. table ≡ with_state p.sessions lsid s st) → live ≡ taken_out lsid_cmp lsid p.live
-    → ((x : Lsid) (t : Session) → same_lsid x lsid ≡ false → session p x ≡ Some t → is_open t.state ≡ true → keys_of t.tag store ≡ keys_of t.tag p.store)
+pub ended_by : (p : Part) (lsid : Lsid) (s : Session) (st : SessionState) (table : Table) (live : List (Lsid × Open)) (store : Versions) → Stands p → Rises lsid_cmp p.live → is_open st ≡ false → session p lsid ≡ Some s → is_open s.state ≡ true
+    → IfSome (session p lsid) (λ s. table ≡ with_state p.sessions lsid s st) → live ≡ taken_out lsid_cmp lsid p.live → keys_of s.tag store ≡ []
+    → ((other : Tag) → same_tag other s.tag ≡ false → keys_of other store ≡ keys_of other p.store) → HaveIds store
     → Stands (record p { sessions = table; live = live; store = store })
-ended_by p lsid s st table live store stands r closed is ht hl keys =
+ended_by p lsid s st table live store stands r closed is so ht hl own rest ids =
     let table_is : table ≡ with_state p.sessions lsid s st = if_there (λ (s : Session). table ≡ with_state p.sessions lsid s st) (session p lsid) s is ht in
-    subst Stands (sym (made p table (with_state p.sessions lsid s st) live (taken_out lsid_cmp lsid p.live) store store table_is hl refl)) (ended_stands p store lsid s st stands r closed keys)
+    subst Stands (sym (made p table (with_state p.sessions lsid s st) live (taken_out lsid_cmp lsid p.live) store store table_is hl refl)) (ended_stands p store lsid s st stands r closed is so own rest ids)
+
+no_write : (writes : List Write) → has_written writes ≡ false → writes ≡ []
+no_write [] h = refl
+no_write (write ∷ writes) h = cc
+
+no_keys_case : (store : Versions) (s : Session) (o : Option Open) → StateAt store s state.Live o → has_writes o ≡ false → keys_of s.tag store ≡ []
+no_keys_case store s None at none = absurd at
+no_keys_case store s (Some o) at none = sym at.1 ∙ ap (map place_of) (no_write o.writes none)
+
+-- one that wrote nothing has no versions
+no_keys : (p : Part) (lsid : Lsid) (s : Session) → Stands p → session p lsid ≡ Some s → s.state ≡ state.Live → has_writes (open_of p lsid) ≡ false → keys_of s.tag p.store ≡ []
+no_keys p lsid s stands there live none =
+    let had : SessionAt p.store (Some s) (open_of p lsid) = subst (λ x. SessionAt p.store x (open_of p lsid)) there (stands.sessions lsid) in
+    no_keys_case p.store s (open_of p lsid) (subst (λ st. StateAt p.store s st (open_of p lsid)) live had) none
 
 -- it ends without a write
-pub released : (p : Part) (lsid : Lsid) (table : Table) (live : List (Lsid × Open)) → Stands p → Rises lsid_cmp p.live → IsSomeAnd (session p lsid) (λ s. s.state ≡ state.Live)
+pub released : (p : Part) (lsid : Lsid) (table : Table) (live : List (Lsid × Open)) → Stands p → Rises lsid_cmp p.live → IsSomeAnd (session p lsid) (λ s. s.state ≡ state.Live) → has_writes (open_of p lsid) ≡ false
     → IfSome (session p lsid) (λ s. table ≡ with_state p.sessions lsid s state.Released) → live ≡ taken_out lsid_cmp lsid p.live → Stands (record p { sessions = table; live = live })
-released p lsid table live stands r is_live ht hl =
+released p lsid table live stands r is_live none ht hl =
     let there = live_there p lsid is_live in
-    ended_by p lsid there.0 state.Released table live p.store stands r refl there.1 ht hl (λ x t other ht to. refl)
+    ended_by p lsid there.0 state.Released table live p.store stands r refl there.1 (is_live_open there.0.state there.2) ht hl (no_keys p lsid there.0 stands there.1 there.2 none) (λ other apart. refl) stands.ids
 
 -- it commits
 pub committed : (p : Part) (lsid : Lsid) (o : Open) (at : ℕ) (table : Table) (live : List (Lsid × Open)) (store : Versions) → Stands p → Rises lsid_cmp p.live → IsSomeAnd (session p lsid) (λ s. s.state ≡ state.Live) → Some o ≡ open_of p lsid
@@ -253,8 +296,9 @@ committed p lsid o at table live store stands r is_live mine ht hl hs =
     let has = live_has p lsid o there.0 there.1 stands is_live mine in
     let so : is_open there.0.state ≡ true = is_live_open there.0.state there.2 in
     let store_is : store ≡ stamped there.0.tag (stamp.At at) p.store = hs ∙ ap (λ tag. stamped tag (stamp.At at) p.store) has.1 in
-    ended_by p lsid there.0 (state.Committed at) table live store stands r refl there.1 ht hl
-    (λ x t other ht to. ap (keys_of t.tag) store_is ∙ keys_stamped there.0.tag t.tag (stamp.At at) p.store (of_two p lsid x there.0 t stands there.1 so other ht to) refl)
+    ended_by p lsid there.0 (state.Committed at) table live store stands r refl there.1 so ht hl (ap (keys_of there.0.tag) store_is ∙ keys_committed there.0.tag at p.store)
+    (λ other apart. ap (keys_of other) store_is ∙ keys_stamped there.0.tag other (stamp.At at) p.store apart refl)
+    (subst HaveIds (sym store_is) (ids_stamped there.0.tag (stamp.At at) p.store stands.ids))
 
 -- it is prepared
 pub prepared_stands : (p : Part) (lsid : Lsid) (o : Open) (at coordinator : ℕ) (table : Table) (live : List (Lsid × Open)) (store : Versions) → Stands p → Rises lsid_cmp p.live → IsSomeAnd (session p lsid) (λ s. s.state ≡ state.Live) → Some o ≡ open_of p lsid
@@ -286,6 +330,12 @@ prepared_stands p lsid o at coordinator table live store stands r is_live mine l
           let same : Some now ≡ Some u = sym here ∙ hu in
           let one : now ≡ u = cc in
           ap (λ (v : Session). same_tag v.tag t.tag) (sym one) ∙ tag_flip s.tag t.tag ∙ two x t other hx to;
+      owned = λ tag closed.
+          let apart : same_tag s.tag tag ≡ false = closed lsid now here refl in
+          let flipped : same_tag tag s.tag ≡ false = tag_flip tag s.tag ∙ apart in
+          keys_stamped s.tag tag (stamp.Prepared s.tag at) p.store flipped apart
+          ∙ stands.owned tag (closed_before lsid p q tag (ended_changes lsid p left s st) closed (λ t ht to. ap (λ (u : Session). same_tag u.tag tag) (one_session p lsid t s ht there.1) ∙ apart));
+      ids = ids_stamped s.tag (stamp.Prepared s.tag at) p.store stands.ids;
     } in
     subst Stands (sym (made p table (with_state p.sessions lsid s st) live (taken_out lsid_cmp lsid p.live) store left table_is hl store_is)) (moved lsid p q stands moves)
 
@@ -309,6 +359,8 @@ pushed_stands p lsid s q stands there live tag =
       sessions = stands.sessions;
       pending = λ x t at coordinator. pushed_case p lsid s q x t at coordinator (same_lsid x lsid) refl stands there live tag;
       apart = stands.apart;
+      owned = stands.owned;
+      ids = stands.ids;
     }
 
 pending_open : (lsid : Lsid) (q : Pending) (o : Option Open) → Some q ≡ option_map (pending_of lsid) o → (mine : Open) × (o ≡ Some mine) × (q.tag ≡ mine.tag) × (q.keys ≡ map place_of mine.writes)
@@ -365,6 +417,8 @@ forgotten_stands p tag stands apart =
       sessions = stands.sessions;
       pending = λ x t at coordinator there prepared. keys_left t.tag tag [] p.pending (apart x t there (prepared_open t.state at coordinator prepared)) ∙ stands.pending x t at coordinator there prepared;
       apart = stands.apart;
+      owned = stands.owned;
+      ids = stands.ids;
     }
 
 ended_apart : (p e : Part) (lsid : Lsid) (s now : Session) (x : Lsid) (t : Session) (b : Bool) → same_lsid x lsid ≡ b → Stands p → session p lsid ≡ Some s → is_open s.state ≡ true → ChangesOnly lsid p e → session e lsid ≡ Some now → is_open now.state ≡ false
@@ -402,7 +456,7 @@ applying p m s there stands r is_prepared =
     let left : Versions = decided s.tag (commit_time m.decision) p.store in
     let now : Session = record { number = s.number; tag = s.tag; state = state_behind m.decision } in
     let e : Part = ended (record p { store = left }) m.lsid s (state_behind m.decision) in
-    let e_stands : Stands e = ended_stands p left m.lsid s (state_behind m.decision) stands r (behind_closed m.decision) (λ x t other ht to. decided_keys s.tag t.tag (commit_time m.decision) p.store (of_two p m.lsid x s t stands there so other ht to)) in
+    let e_stands : Stands e = ended_stands p left m.lsid s (state_behind m.decision) stands r (behind_closed m.decision) there so (keys_decided s.tag (commit_time m.decision) p.store) (λ other apart. decided_keys s.tag other (commit_time m.decision) p.store apart) (ids_decided s.tag (commit_time m.decision) p.store stands.ids) in
     record {
       keys = stands.pending m.lsid s st.0 st.1 there st.2;
       there = subst IsSome (sym there) refl;

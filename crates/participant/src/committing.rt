@@ -1,4 +1,4 @@
-ghost use Rattle.std.specs.Prelude.{◌≡◌, ◌≤◌, ◌⊎◌, ℕ, None, Some, IfOk, IsSomeAnd, OnErr};
+ghost use Rattle.std.specs.Prelude.{◌≡◌, ◌≤◌, ◌⊎◌, ℕ, None, Some, false, IfOk, IsSomeAnd, OnErr};
 ghost use Rattle.txn_types.specs.Clock.{last_time, next_time};
 ghost use Rattle.txn_types.specs.declared.decision.Told.TheVariants as told;
 ghost use Rattle.session_table.specs.declared.session.Session.{Session};
@@ -130,7 +130,8 @@ impl Participant {
 
     /// The transaction ends without a write.
     fn release(&mut self, m: &Commit) -> Done
-        requires { IsSomeAnd (session self.old m.now.lsid) (λ s. s.state ≡ state.Live) }
+        requires live { IsSomeAnd (session self.old m.now.lsid) (λ s. s.state ≡ state.Live) }
+        requires none { has_writes (open_of self.old m.now.lsid) ≡ false }
         ensures { (last : ℕ) (s : Session) → session self.old m.now.lsid ≡ Some s → releases self.old last m.now s ≡ record { told = result.told; rec = result.rec; last = last; part = self.new } }
     {
         let _count = self.live.len();

@@ -1,5 +1,4 @@
-//! A shard's part in transactions: commit, prepare, decision, abort, recovery and expiry; and, for the statements to
-//! come, what an operation touches and the write set of a transaction.
+//! A shard's part in transactions: statements, commit, prepare, decision, abort, recovery and expiry.
 #![tactic(auto)]
 
 mod clock;
@@ -14,7 +13,9 @@ mod looking;
 mod merging;
 mod part;
 mod preparing;
+mod putting;
 mod said;
+mod stating;
 mod touching;
 
 pub use part::Participant;

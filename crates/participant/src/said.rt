@@ -3,7 +3,7 @@ ghost use Rattle.participant.specs.declared.said.PartErr.TheVariants.{Memory};
 
 use journal_rec::Rec;
 use std::alloc::{AllocError, AllocFailed};
-use txn_types::{Cause, OpReply, Tag, Told, Ts, Writes};
+use txn_types::{Cause, OpErr, OpReply, Tag, Told, Ts, Writes};
 use version_store::Held;
 
 /// What a live transaction has at a shard.
@@ -38,6 +38,17 @@ pub enum Said {
     },
     /// It came too late to be answered.
     Late,
+}
+
+/// What comes of an operation over what a transaction sees.
+#[derive(Drop)]
+pub enum Meant {
+    /// A key that it touches is held.
+    HeldBy(Held),
+    /// It is refused.
+    Refused(OpErr),
+    /// It is done, with this reply and these writes.
+    Does(OpReply, Writes),
 }
 
 /// What is told of a commit, nothing where it came too late, and the record that makes it durable.
