@@ -1,0 +1,4 @@
+pub mod Below
+pub mod Writing
+pub mod Good
+pub mod Held
