@@ -1,0 +1,11 @@
+pub mod Keys
+pub mod Levels
+pub mod Spelt
+pub mod Apart
+pub mod Written
+pub mod Places
+pub mod Outer
+pub mod Contents
+pub mod Headers
+pub mod Framed
+pub mod Firsts

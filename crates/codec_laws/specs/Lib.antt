@@ -1,0 +1,4 @@
+pub mod Spells
+pub mod Faults
+pub mod Messages
+pub mod First
