@@ -10,3 +10,5 @@ pub mod Counting
 pub mod Steps
 pub mod Decisions
 pub mod Asked
+pub mod Removing
+pub mod Behind

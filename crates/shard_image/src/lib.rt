@@ -2,9 +2,11 @@
 //! and what is coordinated, one record after the other.
 #![tactic(auto)]
 
+mod change;
 mod image;
 pub mod laws;
 mod order;
 
+pub use change::{apply, image_of};
 pub use image::{Image, ImageErr, Place};
 pub use order::can_follow;

@@ -1,0 +1,6 @@
+pub mod Firsts
+pub mod Alike
+pub mod Behind
+pub mod Unlooked
+pub mod Sections
+pub mod Lacks
