@@ -47,6 +47,8 @@ fn play_line<K: Sink>(
     let ask = match read_ask(alloc, line) {
         Ok(ask) => ask,
         Err(LineErr::Form) => return Err(Stop::BadLine { line: number }),
+        Err(LineErr::Hex) => return Err(Stop::BadLine { line: number }),
+        Err(LineErr::Number) => return Err(Stop::BadLine { line: number }),
         Err(LineErr::Memory) => return Err(Stop::Memory),
     };
     let Ok(text) = desk.serve(alloc, ask.connection, ask.bytes.as_slice()) else {

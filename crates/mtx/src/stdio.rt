@@ -1,8 +1,8 @@
-ghost use Rattle.std.specs.Prelude.{◌≡◌, ◌≤◌, None, IfOk, length};
+ghost use Rattle.std.specs.Prelude.{◌≡◌, ◌≤◌, None, IfOk, IfSome, length};
 ghost use Rattle.outside_core.specs.Bytes.{ReadsBytes};
 
 use outside_core::{Sink, SinkErr, Source, SourceErr};
-use std::io::{Read, Write};
+use std::io::{ErrorKind, Read, Write};
 
 /// How many bytes one call asks of a reader.
 const ROOM: usize = 65_536;
@@ -22,12 +22,31 @@ impl<R: Read + Drop> ReaderSource<R> {
     }
 }
 
+/// Reads once into `room`, and tells how many bytes came; nothing where the reader failed. A read that a signal interrupts
+/// is tried again.
+fn read_through<R: Read>(inner: &mut R, room: &mut [u8]) -> Option<usize>
+    ensures room { length room.new ≡ length room.old }
+    ensures bound { IfSome result (λ n. n ≤ length room.old) }
+{
+    for _ in 0..u64::MAX {
+        match inner.read(room) {
+            Ok(count) => return Some(count),
+            Err(error) => {
+                if error.kind() != ErrorKind::Interrupted {
+                    return None;
+                }
+            }
+        }
+    }
+    None
+}
+
 /// Reads once into `room`, and appends what came.
 fn pull<R: Read>(inner: &mut R, room: &mut [u8], out: &mut Vec<u8>) -> Result<usize, SourceErr>
     ensures moved { ReadsBytes (length room.old) None None out.old.items out.new.items result }
     ensures bound { IfOk result (λ n. n ≤ length room.old) }
 {
-    let Ok(count) = inner.read(room) else {
+    let Some(count) = read_through(inner, room) else {
         return Err(SourceErr::Failed);
     };
     let front = &room[..count];

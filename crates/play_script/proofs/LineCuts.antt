@@ -1,15 +1,11 @@
--- Laws of a list that is cut at the first place of a byte, and of decimal numbers there.
-use Rattle.std.proofs.Common.{◌≡◌, ℕ, ◌+◌, ◌<◌, ◌≤◌, ◌^◌, Bool, true, false, cond, not, eqb, List, [], ◌∷◌, ◌++◌, length, get_or, take, drop, Some, None, refl, ap, sym, ◌∙◌, arith, append_assoc, drop-cons, add-one}
-use Rattle.std.specs.Prelude.{position, codes, decimal}
+-- Laws of a list that is cut at the first place of a byte.
+use Rattle.std.proofs.Common.{◌≡◌, ℕ, ◌+◌, ◌<◌, ◌≤◌, Bool, true, false, cond, not, eqb, List, ◌∷◌, ◌++◌, length, get_or, take, drop, Some, None, refl, ap, sym, ◌∙◌, arith, drop-cons, add-one}
+use Rattle.std.specs.Prelude.{position}
 use Rattle.std.specs.List.{position_or_len}
-use Rattle.std.specs.Str.{IsUtf8}
-use Rattle.std.proofs.lemmas.Bool.{eqb-true, eqb-false, ne_eqb, ltb-false, not-true, not_from_false, and_parts}
-use Rattle.std.proofs.lemmas.Fmt.{decimal_is_IsNumeral, IsAscii-decimal}
-use Rattle.std.proofs.lemmas.List.{append_cancel_left, get_or_default, get_or-take, length-take-le, take-append-drop}
+use Rattle.std.proofs.lemmas.Bool.{eqb-true, ltb-false, not_from_false}
+use Rattle.std.proofs.lemmas.List.{get_or_default, get_or-take, length-take-le, take-append-drop}
 use Rattle.std.proofs.lemmas.List.Quantifiers.{position-Some}
 use Rattle.std.proofs.lemmas.List.Sums.{list_all-from_AllPass, fails_before_first}
-use Rattle.std.proofs.lemmas.Str.{IsUtf8-from_ascii}
-use Rattle.std.proofs.lemmas.Str.Parse.{digit_at}
 use Rattle.play_script.specs.Lines.{Lacks}
 
 -- the search finds nothing: no byte is that one
@@ -47,49 +43,3 @@ first_from_some byte bytes at some =
           let same : get_or (take at bytes) k d ≡ get_or bytes k 0 = get_or-take at bytes k d before ∙ get_or_default bytes k d 0 (omega (arith, found.0)) in
           not_from_false _ (ap p same ∙ found.2 k before));
     }
-
--- there is one way to cut at the first place of a byte
-differs : (byte : ℕ) (bytes : List ℕ) → Lacks byte (byte ∷ bytes) → ⊥
-differs byte bytes lacks = eqb-false byte byte (not-true _ (and_parts _ _ lacks).0) refl
-
-behind_first : (byte x : ℕ) (bytes : List ℕ) → Lacks byte (x ∷ bytes) → Lacks byte bytes
-behind_first byte x bytes lacks = (and_parts _ _ lacks).1
-
-pub record AreSame (a b r s : List ℕ) : Type 0 where
-  pub fronts : a ≡ b
-  pub rests : r ≡ s
-
-pub one_cut : (byte : ℕ) (a b r s : List ℕ) → Lacks byte a → Lacks byte b → a ++ byte ∷ r ≡ b ++ byte ∷ s → AreSame a b r s
-one_cut byte [] [] r s la lb e = record { fronts = refl; rests = cc }
-one_cut byte [] (y ∷ b) r s la lb e =
-    let is : byte ≡ y = cc in
-    absurd (differs byte b (rw (← is) at lb))
-one_cut byte (x ∷ a) [] r s la lb e =
-    let is : x ≡ byte = cc in
-    absurd (differs byte a (rw is at la))
-one_cut byte (x ∷ a) (y ∷ b) r s la lb e =
-    let heads : x ≡ y = cc in
-    let tails : a ++ byte ∷ r ≡ b ++ byte ∷ s = cc in
-    let more = one_cut byte a b r s (behind_first byte x a la) (behind_first byte y b lb) tails in
-    record { fronts = ap (λ (h : ℕ). h ∷ a) heads ∙ ap (λ (t : List ℕ). y ∷ t) more.fronts; rests = more.rests }
-
--- digits hold no space
-pub decimal_lacks : (n : ℕ) → n < 2 ^ 32 → Lacks 32 (decimal n)
-decimal_lacks n small =
-    list_all-from_AllPass (λ (b : ℕ). not (eqb b 32)) (decimal n) (λ k d lt.
-    let digit = digit_at (decimal n) k (decimal_is_IsNumeral n (omega arith)).0.1 lt in
-    let same : get_or (decimal n) k d ≡ get_or (decimal n) k 0 = get_or_default (decimal n) k d 0 lt in
-    not_from_false _ (ne_eqb _ _ (λ is. omega (arith, digit.0))))
-
-pub decimal_utf8 : (n : ℕ) (text : List ℕ) → n < 2 ^ 32 → text ≡ decimal n → IsUtf8 text
-decimal_utf8 n text small is = rw is (IsUtf8-from_ascii (decimal n) (IsAscii-decimal n (omega arith)))
-
--- a line of the form holds one number and one text of digits
-pub one_form : (line rest number digits : List ℕ) (n : ℕ) (more : List ℕ) → line ≡ codes "client " ++ rest → rest ≡ number ++ 32 ∷ digits → Lacks 32 number → n < 2 ^ 32 → line ≡ codes "client " ++ decimal n ++ 32 ∷ more → AreSame number (decimal n) digits more
-one_form line rest number digits n more word cut lacks small is =
-    let same : rest ≡ decimal n ++ 32 ∷ more = append_cancel_left (codes "client ") _ _ (sym word ∙ is ∙ append_assoc (codes "client ") (decimal n) (32 ∷ more)) in
-    one_cut 32 number (decimal n) digits more lacks (decimal_lacks n small) (sym cut ∙ same)
-
-pub one_line : (line digits : List ℕ) (m n : ℕ) (more : List ℕ) → line ≡ codes "client " ++ decimal m ++ 32 ∷ digits → m < 2 ^ 32 → n < 2 ^ 32 → line ≡ codes "client " ++ decimal n ++ 32 ∷ more → AreSame (decimal m) (decimal n) digits more
-one_line line digits m n more first low small is =
-    one_form line (decimal m ++ 32 ∷ digits) (decimal m) digits n more (first ∙ append_assoc (codes "client ") (decimal m) (32 ∷ digits)) refl (decimal_lacks m low) small is

@@ -1,20 +1,15 @@
 -- Laws of the lines of a text.
-use Rattle.std.proofs.Common.{◌≡◌, ℕ, suc, ◌<◌, Bool, true, false, cond, not, eqb, List, [], ◌∷◌, ◌++◌, length, inl, inr, refl, ap, sym, ◌∙◌, arith, append_assoc}
-use Rattle.std.specs.List.{slice_split, onto_first}
-use Rattle.std.proofs.lemmas.Bool.{not-true, ne_eqb}
+use Rattle.std.proofs.Common.{◌≡◌, ℕ, suc, ◌<◌, Bool, true, false, cond, eqb, List, [], ◌∷◌, ◌++◌, length, inl, inr, refl, ap, sym, ◌∙◌, arith, append_assoc}
+use Rattle.std.specs.List.{onto_first}
+use Rattle.std.proofs.lemmas.Bool.{ne_eqb}
 use Rattle.std.proofs.lemmas.List.{append-nil}
-use Rattle.std.proofs.lemmas.List.Splits.{slice_split_none, length-slice_split}
-use Rattle.std.proofs.lemmas.List.Sums.{AllPass-from_list_all}
 use Rattle.play_script.specs.Lines.{Lacks, lines_in, lines_of}
 use Rattle.play_script.specs.Input.{AreWhole}
+use Rattle.play_script.proofs.Cuts.{pieces_at, some_pieces, one_piece}
 
 -- the pieces between line feeds
 abbrev pub pieces : List ℕ → List (List ℕ)
-pieces text = slice_split (λ b. eqb b 10) text
-
--- there is always a piece
-some_pieces : (text : List ℕ) → 0 < length (pieces text)
-some_pieces text = omega (arith, length-slice_split (λ (b : ℕ). eqb b 10) text)
+pieces text = pieces_at 10 text
 
 onto_first-append : (x : ℕ) (parts more : List (List ℕ)) → 0 < length parts → onto_first x (parts ++ more) ≡ onto_first x parts ++ more
 onto_first-append x [] more some = absurd (omega arith)
@@ -27,7 +22,7 @@ step_on false x before behind all some is = ap (onto_first x) is ∙ onto_first-
 
 pub pieces-append : (front rest : List ℕ) → pieces (front ++ 10 ∷ rest) ≡ pieces front ++ pieces rest
 pieces-append [] rest = refl
-pieces-append (x ∷ front) rest = step_on (eqb x 10) x (pieces front) (pieces rest) (pieces (front ++ 10 ∷ rest)) (some_pieces front) (pieces-append front rest)
+pieces-append (x ∷ front) rest = step_on (eqb x 10) x (pieces front) (pieces rest) (pieces (front ++ 10 ∷ rest)) (some_pieces 10 front) (pieces-append front rest)
 
 -- pieces with others behind them are lines
 lines_in-append : (parts more : List (List ℕ)) → 0 < length more → lines_in (parts ++ more) ≡ parts ++ lines_in more
@@ -44,15 +39,11 @@ lines_of-nil = refl
 -- the lines in front of a line feed are its pieces
 ended : (front rest : List ℕ) → lines_of (front ++ 10 ∷ rest) ≡ pieces front ++ lines_of rest
 unfolding lines_of
-ended front rest = ap lines_in (pieces-append front rest) ∙ lines_in-append (pieces front) (pieces rest) (some_pieces rest)
-
--- bytes without a line feed are one piece
-one_piece : (line : List ℕ) → Lacks 10 line → pieces line ≡ line ∷ []
-one_piece line lacks = slice_split_none (λ (b : ℕ). eqb b 10) line (λ k d lt. not-true _ (AllPass-from_list_all (λ (b : ℕ). not (eqb b 10)) line lacks k d lt))
+ended front rest = ap lines_in (pieces-append front rest) ∙ lines_in-append (pieces front) (pieces rest) (some_pieces 10 rest)
 
 -- a line that is ended, and the lines behind it
 pub lines_of-ended : (line rest : List ℕ) → Lacks 10 line → lines_of (line ++ 10 ∷ rest) ≡ line ∷ lines_of rest
-lines_of-ended line rest lacks = ended line rest ∙ ap (λ (p : List (List ℕ)). p ++ lines_of rest) (one_piece line lacks)
+lines_of-ended line rest lacks = ended line rest ∙ ap (λ (p : List (List ℕ)). p ++ lines_of rest) (one_piece 10 line lacks)
 
 -- the last line, which no line feed ends
 last_line : (line : List ℕ) → 0 < length line → lines_in (line ∷ []) ≡ line ∷ []
@@ -61,7 +52,7 @@ last_line (x ∷ line) some = ap (λ (b : Bool). cond b [] ((x ∷ line) ∷ [])
 
 pub lines_of-last : (line : List ℕ) → Lacks 10 line → 0 < length line → lines_of line ≡ line ∷ []
 unfolding lines_of
-lines_of-last line lacks some = ap lines_in (one_piece line lacks) ∙ last_line line some
+lines_of-last line lacks some = ap lines_in (one_piece 10 line lacks) ∙ last_line line some
 
 -- the same, with the empty text behind it
 pub lines_of-whole : (line rest : List ℕ) → Lacks 10 line → 0 < length line → length rest ≡ 0 → lines_of line ≡ line ∷ lines_of rest

@@ -82,7 +82,7 @@ pub fn read_input<S: Source>(alloc: Global, src: &mut S) -> Result<Input, Source
         whole: 0,
         tail: 0,
     };
-    for _ in 0..u64::MAX {
+    loop {
         let from = bytes.len();
         if src.read(PIECE, &mut bytes)? == 0 {
             let end = End::Whole;
@@ -93,5 +93,4 @@ pub fn read_input<S: Source>(alloc: Global, src: &mut S) -> Result<Input, Source
             return Ok(Input { bytes, end });
         }
     }
-    Err(SourceErr::Memory)
 }

@@ -1,8 +1,8 @@
-//! Schedules of clients' messages: the lines that are read of one, and what each asks.
+//! Schedules: the lines that are read of one, and what each asks.
 #![tactic(auto)]
 
 mod input;
 mod line;
 
 pub use input::{End, Input, read_input};
-pub use line::{Ask, LineErr, next_line, read_ask};
+pub use line::{Ask, Line, LineErr, next_line, read_ask, read_line};
