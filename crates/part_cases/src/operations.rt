@@ -44,7 +44,8 @@ fn insert(alloc: Global, id: i32, value: Value) -> Result<Op, AllocError> {
 }
 
 /// A hundred letters.
-const HUNDRED: &str = "xxxxxxxxxxxxxxxxxxxxxxxxxxxxxxxxxxxxxxxxxxxxxxxxxxxxxxxxxxxxxxxxxxxxxxxxxxxxxxxxxxxxxxxxxxxxxxxxxxxx";
+const HUNDRED: &str =
+    "xxxxxxxxxxxxxxxxxxxxxxxxxxxxxxxxxxxxxxxxxxxxxxxxxxxxxxxxxxxxxxxxxxxxxxxxxxxxxxxxxxxxxxxxxxxxxxxxxxxx";
 
 /// A text of so many letters.
 fn long_text(alloc: Global, length: u32) -> Result<Value, AllocError> {
