@@ -1,7 +1,8 @@
 -- Live transactions that are too old, one after the other.
-use Rattle.std.proofs.Common.{◌≡◌, ◌<◌, ℕ, Bool, true, false, cond, List, [], ◌∷◌, Option, Some, None, IsSomeAnd, find, length, option_map, refl, ap, subst, ◌∙◌, sym, arith}
+use Rattle.std.proofs.Common.{◌≡◌, ◌<◌, ◌||◌, ℕ, Bool, true, false, cond, List, [], ◌∷◌, Option, Some, None, IsSomeAnd, find, is_some, length, option_map, refl, ap, subst, ◌∙◌, sym, arith}
 use Rattle.std.specs.declared.cmp.Ordering.{Ordering}
 use Rattle.std.specs.declared.cmp.Ordering.TheVariants.{Less, Equal, Greater}
+use Rattle.std.specs.List.{list_any}
 use Rattle.std.specs.Ordering.{ordering_reverse}
 use Rattle.txn_types.specs.BySession.{entry_of}
 use Rattle.txn_types.specs.Order.{lsid_cmp, same_lsid}
@@ -157,6 +158,19 @@ turned p q wall lsid begun stands rises is same =
     let e : Row = row.0 in
     let turn : Turn p wall e.0 e.1.begun = record { live = is_live p wall e stands rises row.1; step = one_step p wall e stands rises row.1; fewer = fewer_live p wall e stands rises row.1 } in
     subst (λ (r : Part). Turn r wall lsid begun) same (subst (λ (b : ℕ). Turn p wall lsid b) row.3 (subst (λ (l : Lsid). Turn p wall l e.1.begun) row.2 turn))
+
+-- whether there is one
+any_case : (row : Row) (o : Option Row) (any b : Bool) → is_some (option_map since o) ≡ any → is_some (option_map since (cond b (Some row) o)) ≡ (b || any)
+any_case row o any true h = refl
+any_case row o any false h = h
+
+pub any_older : (wall : ℕ) (rows : List Row) → is_some (option_map since (find (is_older wall) rows)) ≡ list_any (is_older wall) rows
+any_older wall [] = refl
+any_older wall (row ∷ rows) = any_case row (find (is_older wall) rows) (list_any (is_older wall) rows) (is_older wall row) (any_older wall rows)
+
+pub no_first : (o : Option (Lsid × ℕ)) → is_some o ≡ false → o ≡ None
+no_first None h = refl
+no_first (Some first) h = cc
 
 none_row : (o : Option Row) → option_map since o ≡ None → o ≡ None
 none_row None is = refl

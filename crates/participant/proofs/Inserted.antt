@@ -1,15 +1,14 @@
 -- The keys of lists by rising key, behind what is put there.
-use Rattle.std.proofs.Common.{◌≡◌, List, [], ◌∷◌, ◌++◌, Option, Some, None, map, option_map, find, refl, ap, subst, ◌∙◌, sym}
+use Rattle.std.proofs.Common.{◌≡◌, List, [], ◌∷◌, Some, None, map, refl, ap, ◌∙◌, sym}
 use Rattle.std.specs.Map.{lookup}
 use Rattle.std.specs.BTreeMap.{is_at}
 use Rattle.std.specs.Cmp.{IsTotalOrder}
-use Rattle.std.specs.Ordering.{is_eq}
 use Rattle.std.specs.declared.cmp.Ordering.{Ordering}
 use Rattle.std.specs.declared.cmp.Ordering.TheVariants.{Less, Equal, Greater}
 use Rattle.std.proofs.lemmas.Map.Lookups.{CmpEqualImpliesEq}
 use Rattle.txn_semantics.specs.Keyed.{put, taken_out, laid, AllAbove, Rises}
-use Rattle.txn_semantics.proofs.Laying.{above_trans, cmp_self}
-use Rattle.version_store.proofs.Keyed.{AllOver, none_above, put_in_front, put_here, put_before, put_behind, passed, found_here, same_above}
+use Rattle.txn_semantics.proofs.Laying.{cmp_self}
+use Rattle.version_store.proofs.Keyed.{AllOver, put_in_front, put_here, put_before, put_behind, passed, found_here, same_above}
 
 -- keys, with one put among them
 abbrev pub into : {K : Type 0} → (K → K → Ordering) → K → List K → List K

@@ -1,5 +1,5 @@
 -- What is put for a statement, and taken back where there is no memory.
-use Rattle.std.proofs.Common.{◌≡◌, Bool, true, false, cond, List, [], ◌∷◌, ◌++◌, Option, Some, None, find, option_map, refl, ap, ◌∙◌, sym}
+use Rattle.std.proofs.Common.{◌≡◌, Bool, true, false, cond, List, [], ◌∷◌, ◌++◌, Option, Some, None, find, option_map, refl, ap, ◌∙◌}
 use Rattle.txn_types.specs.BySession.{BySession, entry_of, with_entry}
 use Rattle.txn_types.specs.Order.{same_tag, same_lsid, lsid_cmp}
 use Rattle.txn_types.specs.declared.names.Tag.{Tag}

@@ -15,7 +15,6 @@ pub mod Places
 pub mod Forgotten
 pub mod Inserted
 pub mod Written
-pub mod Ids
 pub mod Rows
 pub mod Elsewhere
 pub mod Laid

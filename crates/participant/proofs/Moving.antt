@@ -23,11 +23,10 @@ use Rattle.participant.specs.declared.said.Open.{Open}
 use Rattle.participant.specs.Part.{Part, session, open_of, is_open, ended, aborted, end_live, ends_live, without_pending}
 use Rattle.participant.specs.Decide.{decided_part}
 use Rattle.participant.specs.Laws.{ChangesOnly}
-use Rattle.participant.specs.Stands.{StateAt, SessionAt, Stands, IsClosed, HaveIds, newest_keys, pending_keys, pending_of, has_written, has_writes}
+use Rattle.participant.specs.Stands.{StateAt, SessionAt, Stands, IsClosed, newest_keys, pending_keys, pending_of, has_written, has_writes}
 use Rattle.participant.proofs.Ends.{ended_changes}
 use Rattle.version_store.proofs.Keyed.{found}
 use Rattle.participant.proofs.Forgotten.{keys_pushed, keys_beside, keys_left, nothing_taken}
-use Rattle.participant.proofs.Ids.{ids_dropped, ids_stamped, ids_decided}
 use Rattle.participant.proofs.Keys.{keys_dropped, keys_stamped, keys_restamped}
 use Rattle.participant.proofs.Ordered.{taken_none}
 use Rattle.participant.proofs.Tags.{tag_flip, tag_same, tag_self, lsid_self, lsid_same, lsid_flip}
@@ -58,7 +57,6 @@ pub record Moves (lsid : Lsid) (p q : Part) : Type 0 where
   pub prepared : (s : Session) (at coordinator : ℕ) → session q lsid ≡ Some s → s.state ≡ state.Prepared at coordinator → pending_keys q s.tag ≡ keys_of s.tag q.store
   pub apart : (x : Lsid) (s t : Session) → same_lsid x lsid ≡ false → session q lsid ≡ Some s → session p x ≡ Some t → is_open s.state ≡ true → is_open t.state ≡ true → same_tag s.tag t.tag ≡ false
   pub owned : (tag : Tag) → IsClosed q tag → keys_of tag q.store ≡ []
-  pub ids : HaveIds q.store
 
 sessions_case : (lsid : Lsid) (p q : Part) (x : Lsid) (b : Bool) → same_lsid x lsid ≡ b → Stands p → Moves lsid p q → SessionAt q.store (session q x) (open_of q x)
 sessions_case lsid p q x true is stands moves = subst (λ l. SessionAt q.store (session q l) (open_of q l)) (sym (lsid_same x lsid is)) moves.mine
@@ -100,7 +98,6 @@ moved lsid p q stands moves = record {
   pending = λ x s at coordinator. pending_case lsid p q x (same_lsid x lsid) s at coordinator refl stands moves;
   apart = λ a b s t. apart_case lsid p q a b s t (same_lsid a lsid) (same_lsid b lsid) refl refl stands moves;
   owned = moves.owned;
-  ids = moves.ids;
 }
 
 -- a tag that no session has open behind the change, and not the session that changes before it, no session had open
@@ -156,8 +153,8 @@ owned_case p q store lsid s tag false is stands changes there own rest closed =
     ∙ stands.owned tag (closed_before lsid p q tag changes closed (λ t here still. ap (λ (u : Session). same_tag u.tag tag) (one_session p lsid t s here there) ∙ tag_flip s.tag tag ∙ is))
 
 pub ended_stands : (p : Part) (store : Versions) (lsid : Lsid) (s : Session) (st : SessionState) → Stands p → Rises lsid_cmp p.live → is_open st ≡ false → session p lsid ≡ Some s → is_open s.state ≡ true → keys_of s.tag store ≡ []
-    → ((other : Tag) → same_tag other s.tag ≡ false → keys_of other store ≡ keys_of other p.store) → HaveIds store → Stands (ended (record p { store = store }) lsid s st)
-ended_stands p store lsid s st stands r closed there so own rest ids =
+    → ((other : Tag) → same_tag other s.tag ≡ false → keys_of other store ≡ keys_of other p.store) → Stands (ended (record p { store = store }) lsid s st)
+ended_stands p store lsid s st stands r closed there so own rest =
     let now : Session = record { number = s.number; tag = s.tag; state = st } in
     let q : Part = ended (record p { store = store }) lsid s st in
     let here : session q lsid ≡ Some now = entry_here lsid now p.sessions.entries in
@@ -178,7 +175,6 @@ ended_stands p store lsid s st stands r closed there so own rest ids =
           let wrong : true ≡ false = sym uo ∙ ap (λ (v : Session). is_open v.state) (sym one) ∙ closed in
           cc;
       owned = λ tag shut. owned_case p q store lsid s tag (same_tag tag s.tag) refl stands (ended_changes lsid p store s st) there own rest shut;
-      ids = ids;
     })
 
 -- a live transaction ends with a cause
@@ -216,7 +212,7 @@ ending_case p lsid why o (Some s) is stands r live mine =
           let table_is : table ≡ with_state p.sessions lsid s (state.Aborted why 0) = subst (λ x. IfSome x (λ s. table ≡ with_state p.sessions lsid s (state.Aborted why 0))) is ht in
           made p table (with_state p.sessions lsid s (state.Aborted why 0)) live (taken_out lsid_cmp lsid p.live) store (dropped s.tag p.store) table_is hl (hs ∙ ap (λ tag. dropped tag p.store) both.0)
           ∙ sym told;
-      stands = subst Stands (sym told) (ended_stands p (dropped s.tag p.store) lsid s (state.Aborted why 0) stands r refl is so (keys_gone s.tag p.store) (λ other apart. keys_dropped s.tag other p.store apart) (ids_dropped s.tag p.store stands.ids));
+      stands = subst Stands (sym told) (ended_stands p (dropped s.tag p.store) lsid s (state.Aborted why 0) stands r refl is so (keys_gone s.tag p.store) (λ other apart. keys_dropped s.tag other p.store apart));
     }
 
 pub ending : (p : Part) (lsid : Lsid) (why : Cause) (o : Open) → Stands p → Rises lsid_cmp p.live → IsSomeAnd (session p lsid) (λ s. s.state ≡ state.Live) → Some o ≡ open_of p lsid → Ending p lsid why o
@@ -261,11 +257,11 @@ if_there P o a is h = subst (λ x. IfSome x P) is h
 -- An end of a session's live transaction, with these versions.
 pub ended_by : (p : Part) (lsid : Lsid) (s : Session) (st : SessionState) (table : Table) (live : List (Lsid × Open)) (store : Versions) → Stands p → Rises lsid_cmp p.live → is_open st ≡ false → session p lsid ≡ Some s → is_open s.state ≡ true
     → IfSome (session p lsid) (λ s. table ≡ with_state p.sessions lsid s st) → live ≡ taken_out lsid_cmp lsid p.live → keys_of s.tag store ≡ []
-    → ((other : Tag) → same_tag other s.tag ≡ false → keys_of other store ≡ keys_of other p.store) → HaveIds store
+    → ((other : Tag) → same_tag other s.tag ≡ false → keys_of other store ≡ keys_of other p.store)
     → Stands (record p { sessions = table; live = live; store = store })
-ended_by p lsid s st table live store stands r closed is so ht hl own rest ids =
+ended_by p lsid s st table live store stands r closed is so ht hl own rest =
     let table_is : table ≡ with_state p.sessions lsid s st = if_there (λ (s : Session). table ≡ with_state p.sessions lsid s st) (session p lsid) s is ht in
-    subst Stands (sym (made p table (with_state p.sessions lsid s st) live (taken_out lsid_cmp lsid p.live) store store table_is hl refl)) (ended_stands p store lsid s st stands r closed is so own rest ids)
+    subst Stands (sym (made p table (with_state p.sessions lsid s st) live (taken_out lsid_cmp lsid p.live) store store table_is hl refl)) (ended_stands p store lsid s st stands r closed is so own rest)
 
 no_write : (writes : List Write) → has_written writes ≡ false → writes ≡ []
 no_write [] h = refl
@@ -286,7 +282,7 @@ pub released : (p : Part) (lsid : Lsid) (table : Table) (live : List (Lsid × Op
     → IfSome (session p lsid) (λ s. table ≡ with_state p.sessions lsid s state.Released) → live ≡ taken_out lsid_cmp lsid p.live → Stands (record p { sessions = table; live = live })
 released p lsid table live stands r is_live none ht hl =
     let there = live_there p lsid is_live in
-    ended_by p lsid there.0 state.Released table live p.store stands r refl there.1 (is_live_open there.0.state there.2) ht hl (no_keys p lsid there.0 stands there.1 there.2 none) (λ other apart. refl) stands.ids
+    ended_by p lsid there.0 state.Released table live p.store stands r refl there.1 (is_live_open there.0.state there.2) ht hl (no_keys p lsid there.0 stands there.1 there.2 none) (λ other apart. refl)
 
 -- it commits
 pub committed : (p : Part) (lsid : Lsid) (o : Open) (at : ℕ) (table : Table) (live : List (Lsid × Open)) (store : Versions) → Stands p → Rises lsid_cmp p.live → IsSomeAnd (session p lsid) (λ s. s.state ≡ state.Live) → Some o ≡ open_of p lsid
@@ -298,7 +294,6 @@ committed p lsid o at table live store stands r is_live mine ht hl hs =
     let store_is : store ≡ stamped there.0.tag (stamp.At at) p.store = hs ∙ ap (λ tag. stamped tag (stamp.At at) p.store) has.1 in
     ended_by p lsid there.0 (state.Committed at) table live store stands r refl there.1 so ht hl (ap (keys_of there.0.tag) store_is ∙ keys_committed there.0.tag at p.store)
     (λ other apart. ap (keys_of other) store_is ∙ keys_stamped there.0.tag other (stamp.At at) p.store apart refl)
-    (subst HaveIds (sym store_is) (ids_stamped there.0.tag (stamp.At at) p.store stands.ids))
 
 -- it is prepared
 pub prepared_stands : (p : Part) (lsid : Lsid) (o : Open) (at coordinator : ℕ) (table : Table) (live : List (Lsid × Open)) (store : Versions) → Stands p → Rises lsid_cmp p.live → IsSomeAnd (session p lsid) (λ s. s.state ≡ state.Live) → Some o ≡ open_of p lsid
@@ -335,7 +330,6 @@ prepared_stands p lsid o at coordinator table live store stands r is_live mine l
           let flipped : same_tag tag s.tag ≡ false = tag_flip tag s.tag ∙ apart in
           keys_stamped s.tag tag (stamp.Prepared s.tag at) p.store flipped apart
           ∙ stands.owned tag (closed_before lsid p q tag (ended_changes lsid p left s st) closed (λ t ht to. ap (λ (u : Session). same_tag u.tag tag) (one_session p lsid t s ht there.1) ∙ apart));
-      ids = ids_stamped s.tag (stamp.Prepared s.tag at) p.store stands.ids;
     } in
     subst Stands (sym (made p table (with_state p.sessions lsid s st) live (taken_out lsid_cmp lsid p.live) store left table_is hl store_is)) (moved lsid p q stands moves)
 
@@ -360,7 +354,6 @@ pushed_stands p lsid s q stands there live tag =
       pending = λ x t at coordinator. pushed_case p lsid s q x t at coordinator (same_lsid x lsid) refl stands there live tag;
       apart = stands.apart;
       owned = stands.owned;
-      ids = stands.ids;
     }
 
 pending_open : (lsid : Lsid) (q : Pending) (o : Option Open) → Some q ≡ option_map (pending_of lsid) o → (mine : Open) × (o ≡ Some mine) × (q.tag ≡ mine.tag) × (q.keys ≡ map place_of mine.writes)
@@ -418,7 +411,6 @@ forgotten_stands p tag stands apart =
       pending = λ x t at coordinator there prepared. keys_left t.tag tag [] p.pending (apart x t there (prepared_open t.state at coordinator prepared)) ∙ stands.pending x t at coordinator there prepared;
       apart = stands.apart;
       owned = stands.owned;
-      ids = stands.ids;
     }
 
 ended_apart : (p e : Part) (lsid : Lsid) (s now : Session) (x : Lsid) (t : Session) (b : Bool) → same_lsid x lsid ≡ b → Stands p → session p lsid ≡ Some s → is_open s.state ≡ true → ChangesOnly lsid p e → session e lsid ≡ Some now → is_open now.state ≡ false
@@ -456,7 +448,7 @@ applying p m s there stands r is_prepared =
     let left : Versions = decided s.tag (commit_time m.decision) p.store in
     let now : Session = record { number = s.number; tag = s.tag; state = state_behind m.decision } in
     let e : Part = ended (record p { store = left }) m.lsid s (state_behind m.decision) in
-    let e_stands : Stands e = ended_stands p left m.lsid s (state_behind m.decision) stands r (behind_closed m.decision) there so (keys_decided s.tag (commit_time m.decision) p.store) (λ other apart. decided_keys s.tag other (commit_time m.decision) p.store apart) (ids_decided s.tag (commit_time m.decision) p.store stands.ids) in
+    let e_stands : Stands e = ended_stands p left m.lsid s (state_behind m.decision) stands r (behind_closed m.decision) there so (keys_decided s.tag (commit_time m.decision) p.store) (λ other apart. decided_keys s.tag other (commit_time m.decision) p.store apart) in
     record {
       keys = stands.pending m.lsid s st.0 st.1 there st.2;
       there = subst IsSome (sym there) refl;

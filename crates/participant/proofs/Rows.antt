@@ -22,8 +22,8 @@ use Rattle.txn_semantics.specs.Writes.{Place, place_cmp}
 use Rattle.txn_semantics.proofs.Laying.{cmp_self}
 use Rattle.version_store.specs.declared.version.Version.{Version}
 use Rattle.version_store.specs.Versions.{Versions, first, seen, held_among, rows_among, touched_keys, scan, unless}
-use Rattle.participant.specs.Stands.{HaveIds}
-use Rattle.participant.proofs.Ids.{rows_known}
+use Rattle.version_store.specs.Ids.{HaveIds}
+use Rattle.version_store.proofs.Ids.{rows_known}
 
 is_equal : (o : Ordering) → is_eq o ≡ true → o ≡ Equal
 is_equal Less h = cc

@@ -1,12 +1,9 @@
 -- What a statement finds of its transaction, and how a part stands behind it.
-use Rattle.std.proofs.Common.{◌≡◌, ◌&&◌, ℕ, Bool, true, false, cond, not, List, [], ◌∷◌, ◌++◌, Option, Some, None, IsSome, IfSome, find, map, option_map, refl, ap, subst, ◌∙◌, sym}
-use Rattle.std.specs.Map.{lookup}
-use Rattle.std.specs.BTreeMap.{is_at}
+use Rattle.std.proofs.Common.{◌≡◌, Bool, true, false, cond, List, [], ◌∷◌, ◌++◌, Option, Some, None, IsSome, IfSome, map, refl, ap, subst, ◌∙◌, sym}
 use Rattle.std.specs.declared.cmp.Ordering.{Ordering}
 use Rattle.std.specs.declared.cmp.Ordering.TheVariants.{Less, Equal, Greater}
-use Rattle.txn_types.specs.BySession.{BySession, entry_of, with_entry}
+use Rattle.txn_types.specs.BySession.{entry_of}
 use Rattle.txn_types.specs.Order.{same_tag, same_lsid, lsid_cmp}
-use Rattle.txn_types.specs.Writes.{AllKept}
 use Rattle.txn_types.specs.declared.message.Statement.{Statement}
 use Rattle.txn_types.specs.declared.names.Tag.{Tag}
 use Rattle.txn_types.specs.declared.node.Lsid.{Lsid}
@@ -27,16 +24,15 @@ use Rattle.participant.specs.declared.said.Open.{Open}
 use Rattle.participant.specs.Part.{Part, session, open_of, is_open, elsewhere, closed, without_live}
 use Rattle.participant.specs.Laws.{ChangesOnly}
 use Rattle.participant.specs.Statement.{own_of, writes_with, with_open, made_room, stands as stands_as}
-use Rattle.participant.specs.Stands.{StateAt, SessionAt, Stands, IsClosed, HaveIds, CanLeave, live_session, without_older, without_open, mine_of, mine}
+use Rattle.participant.specs.Stands.{StateAt, SessionAt, Stands, IsClosed, CanLeave, live_session, without_older, without_open, mine_of, mine}
 use Rattle.participant.proofs.Elsewhere.{nowhere_else}
 use Rattle.participant.proofs.Ends.{entry_elsewhere, entry_without}
 use Rattle.participant.proofs.Forgotten.{nothing_taken}
-use Rattle.participant.proofs.Ids.{ids_dropped, ids_written}
-use Rattle.participant.proofs.Inserted.{into, all_into, Ascend, keys_laid, ascend_keys, rises_under, put_taken}
+use Rattle.participant.proofs.Inserted.{all_into, Ascend, keys_laid, ascend_keys, rises_under, put_taken}
 use Rattle.participant.proofs.Keys.{keys_dropped}
 use Rattle.participant.proofs.Merges.{laid-append}
-use Rattle.participant.proofs.Moving.{Moves, made, moved, entry_here, of_two, one_session, closed_before, none_live, closed_at}
-use Rattle.participant.proofs.Tags.{tag_flip, tag_same, tag_self, lsid_same}
+use Rattle.participant.proofs.Moving.{made, moved, entry_here, of_two, one_session, none_live, closed_at}
+use Rattle.participant.proofs.Tags.{tag_flip, tag_same, lsid_same}
 use Rattle.participant.proofs.Written.{keys_gone, keys_with, keys_with_others, rises_written, rises_dropped}
 
 -- What stands there already.
@@ -129,7 +125,6 @@ closed_with p lsid tag beside own x t there still = beside_case p lsid tag x t (
 -- of versions that a session's older transaction left: other transactions' are as they were, and nobody's stand
 pub record Left (p : Part) (lsid : Lsid) (store : Versions) : Type 0 where
   pub rises : Rises place_cmp store
-  pub ids : HaveIds store
   pub others : (x : Lsid) (t : Session) → same_lsid x lsid ≡ false → session p x ≡ Some t → is_open t.state ≡ true → keys_of t.tag store ≡ keys_of t.tag p.store
 
 dropped_left : (p : Part) (lsid : Lsid) (a : Open) → Stands p → Rises place_cmp p.store → open_of p lsid ≡ Some a → Left p lsid (dropped a.tag p.store)
@@ -138,12 +133,11 @@ dropped_left p lsid a stands r is =
     let so : is_open h.s.state ≡ true = ap is_open h.live in
     record {
       rises = rises_dropped a.tag p.store r;
-      ids = ids_dropped a.tag p.store stands.ids;
       others = λ x t apart there still. keys_dropped a.tag t.tag p.store (ap (same_tag t.tag) h.tag ∙ of_two p lsid x h.s t stands h.there so apart there still);
     }
 
 same_left : (p : Part) (lsid : Lsid) → Stands p → Rises place_cmp p.store → Left p lsid p.store
-same_left p lsid stands r = record { rises = r; ids = stands.ids; others = λ x t apart there still. refl }
+same_left p lsid stands r = record { rises = r; others = λ x t apart there still. refl }
 
 -- nobody's versions stand where the session's live transaction was dropped
 gone_case : (p : Part) (lsid : Lsid) (a : Open) (tag : Tag) (b : Bool) → same_tag tag a.tag ≡ b → Stands p → open_of p lsid ≡ Some a → ClosedBeside p lsid tag → keys_of tag (dropped a.tag p.store) ≡ []
@@ -262,9 +256,9 @@ written_changes p m o writes =
       live = λ other apart. put_other other m.lsid o p.live apart;
     }
 
-pub written_stands : (p : Part) (m : Statement) (o : Open) (writes : List Write) → Stands p → Rises place_cmp p.store → elsewhere p m.lsid m.tag ≡ false → CanLeave (session p m.lsid) → AllKept writes
+pub written_stands : (p : Part) (m : Statement) (o : Open) (writes : List Write) → Stands p → Rises place_cmp p.store → elsewhere p m.lsid m.tag ≡ false → CanLeave (session p m.lsid)
     → o.tag ≡ m.tag → o.writes ≡ writes_with (mine p m) writes → Stands (written_part p m o writes)
-written_stands p m o writes stands r once leave kept tag whole =
+written_stands p m o writes stands r once leave tag whole =
     let beside : ClosedBeside p m.lsid m.tag = nowhere_else p m.lsid m.tag once in
     let store : Versions = without_older m.tag (open_of p m.lsid) p.store in
     let clear : Cleared p m store (mine p m) = cleared p m stands r beside leave in
@@ -297,7 +291,6 @@ written_stands p m o writes stands r once leave kept tag whole =
           let differ : same_tag m.tag other ≡ false = shut m.lsid now here refl in
           keys_with_others m.tag other store writes clear.left.rises (tag_flip other m.tag ∙ differ)
           ∙ clear.nobody other (λ x t apart there still. shut x t (entry_elsewhere x m.lsid apart now p.sessions.entries ∙ there) still) differ;
-      ids = ids_written m.tag store writes kept clear.left.ids;
     })
 
 room_other : (p : Part) (m : Statement) (o a : Open) (writes : List Write) (b : Bool) → open_of p m.lsid ≡ Some a → Rises lsid_cmp p.live
@@ -350,7 +343,6 @@ shut_stands p m st live store shut stands lives none left nobody =
       prepared = λ u at coordinator hu prepared. absurd (not_both (session q m.lsid) now u here hu shut (ap is_open prepared));
       apart = λ x u t other hu ht uo to. absurd (not_both (session q m.lsid) now u here hu shut uo);
       owned = λ tag closed. nobody tag (λ x t apart there still. closed x t (entry_elsewhere x m.lsid apart now p.sessions.entries ∙ there) still);
-      ids = left.ids;
     })
 
 -- the session's transaction is aborted, and has nothing any more

@@ -1,6 +1,6 @@
 -- The versions of transactions behind what another one, or the transaction itself, writes, and behind its end.
-use Rattle.std.proofs.Common.{◌≡◌, ℕ, Bool, true, false, cond, not, List, [], ◌∷◌, Option, Some, None, map, filter, find, option_map, unwrap_or, is_some, refl, ap, subst, ◌∙◌, sym}
-use Rattle.std.specs.List.{filter_map, cons_option}
+use Rattle.std.proofs.Common.{◌≡◌, ℕ, Bool, true, false, cond, not, List, [], ◌∷◌, Option, Some, None, map, find, option_map, unwrap_or, is_some, refl, ap, ◌∙◌, sym}
+use Rattle.std.specs.List.{cons_option}
 use Rattle.std.specs.Map.{lookup}
 use Rattle.std.specs.BTreeMap.{is_at}
 use Rattle.std.specs.declared.cmp.Ordering.{Ordering}
@@ -14,13 +14,12 @@ use Rattle.txn_semantics.specs.Writes.{Place, place_of, place_cmp}
 use Rattle.txn_semantics.proofs.Laying.{above_trans, rises_put}
 use Rattle.txn_semantics.proofs.Places.{place_total, place_exact}
 use Rattle.txn_semantics.proofs.Steps.{filters}
-use Rattle.version_store.specs.declared.version.Stamp.{Stamp}
 use Rattle.version_store.specs.declared.version.Stamp.TheVariants.{Unfinished, At}
 use Rattle.version_store.specs.declared.version.Version.{Version}
-use Rattle.version_store.specs.Versions.{Versions, first, is_of, is_some_and, writer_of, versions_of, content_of, without, with_write, with_writes, restamped, stamped, has_versions, dropped, decided, written_by, keys_of}
+use Rattle.version_store.specs.Versions.{Versions, first, is_of, versions_of, content_of, without, with_write, with_writes, restamped, stamped, dropped, decided, written_by, keys_of}
 use Rattle.version_store.proofs.Keyed.{none_above, put_in_front, put_here, put_before, put_behind, passed, found_here, same_above}
 use Rattle.version_store.proofs.TakenBack.{versions_by}
-use Rattle.participant.proofs.Keys.{found_without, of_one}
+use Rattle.participant.proofs.Keys.{found_without}
 use Rattle.participant.proofs.Tags.{tag_self, tag_flip}
 use Rattle.participant.proofs.Inserted.{all_into, keys_laid}
 

@@ -1,11 +1,7 @@
 -- What the calls of a shard's part need of it, and keep: of all that belongs to a part, the keys of the transactions that
--- are live or prepared, that each such one is of one session, that no other has a version, and that each document stands
--- under its own id.
+-- are live or prepared, that each such one is of one session, and that no other has a version.
 use Rattle.std.specs.Prelude.{◌≡◌, ◌-◌, ℕ, min, nat_eq, nat_lt, Bool, true, false, List, [], ◌∷◌, map, Option, Some, None, Result, Ok, Err, IfSome, if◌then◌else◌}
-use Rattle.bson_core.specs.Fields.{Document}
-use Rattle.txn_types.specs.Ids.{id_in}
 use Rattle.txn_types.specs.Order.{same_tag, same_lsid}
-use Rattle.txn_types.specs.declared.id.Id.{Id}
 use Rattle.txn_types.specs.declared.message.Statement.{Statement}
 use Rattle.txn_types.specs.declared.names.Tag.{Tag}
 use Rattle.txn_types.specs.declared.node.Lsid.{Lsid}
@@ -22,7 +18,6 @@ use Rattle.session_table.specs.declared.session.SessionState.TheVariants as stat
 use Rattle.version_store.specs.Versions.{Versions, keys_of, dropped, scan}
 use Rattle.version_store.specs.declared.version.Held.{Held}
 use Rattle.version_store.specs.declared.version.Pending.{Pending}
-use Rattle.version_store.specs.declared.version.Version.{Version}
 use Rattle.participant.specs.declared.said.Open.{Open}
 use Rattle.participant.specs.declared.said.Meant.{Meant}
 use Rattle.participant.specs.declared.said.Meant.TheVariants.{HeldBy, Refused, Does}
@@ -55,27 +50,13 @@ pending_keys p tag = newest_keys tag [] p.pending
 abbrev pub IsClosed : Part → Tag → Type 0
 IsClosed p tag = (lsid : Lsid) (s : Session) → session p lsid ≡ Some s → is_open s.state ≡ true → same_tag s.tag tag ≡ false
 
--- each document stands under its own id
-abbrev pub HasId : Id → Option Document → Type 0
-HasId id None = Unit {0}
-HasId id (Some doc) = id_in doc ≡ Some id
-
-abbrev pub HaveId : Id → List Version → Type 0
-HaveId id [] = Unit {0}
-HaveId id (version ∷ versions) = HasId id version.doc × HaveId id versions
-
-abbrev pub HaveIds : Versions → Type 0
-HaveIds [] = Unit {0}
-HaveIds (key ∷ store) = HaveId key.0.1 key.1 × HaveIds store
-
 -- each session has what its state says; one whose transaction is prepared has its keys among the prepared ones; open
--- transactions of one tag are of one session; what isn't committed is of an open one; and documents stand under their ids
+-- transactions of one tag are of one session; and what isn't committed is of an open one
 pub record Stands (p : Part) : Type 0 where
   pub sessions : (lsid : Lsid) → SessionAt p.store (session p lsid) (open_of p lsid)
   pub pending : (lsid : Lsid) (s : Session) (at coordinator : ℕ) → session p lsid ≡ Some s → s.state ≡ state.Prepared at coordinator → pending_keys p s.tag ≡ keys_of s.tag p.store
   pub apart : (a b : Lsid) (s t : Session) → session p a ≡ Some s → session p b ≡ Some t → is_open s.state ≡ true → is_open t.state ≡ true → same_tag s.tag t.tag ≡ true → same_lsid a b ≡ true
   pub owned : (tag : Tag) → IsClosed p tag → keys_of tag p.store ≡ []
-  pub ids : HaveIds p.store
 
 -- whether a transaction wrote here
 abbrev pub has_written : List Write → Bool

@@ -1,9 +1,10 @@
-ghost use Rattle.std.specs.Prelude.{◌≡◌, ◌≤◌, ◌⊎◌, ℕ, None, Some, false, IfOk, IsSomeAnd, OnErr};
+ghost use Rattle.std.specs.Prelude.{◌≡◌, ◌≤◌, ◌⊎◌, ℕ, None, Some, true, false, IfOk, IsSomeAnd, OnErr};
 ghost use Rattle.txn_types.specs.Clock.{last_time, next_time};
 ghost use Rattle.txn_types.specs.declared.decision.Told.TheVariants as told;
 ghost use Rattle.session_table.specs.declared.session.Session.{Session};
 ghost use Rattle.session_table.specs.declared.session.SessionState.TheVariants as state;
 ghost use Rattle.participant.specs.declared.said.Open.{Open};
+ghost use Rattle.participant.specs.Memory.{may_tell_memory};
 ghost use Rattle.participant.specs.Part.{session, open_of};
 ghost use Rattle.participant.specs.Commit.{commit, commits, commits_live, fails, releases};
 ghost use Rattle.participant.specs.Stands.{has_writes};
@@ -39,6 +40,7 @@ impl Participant {
         ensures done { IfOk result (λ done. commit self.old clock.old.last wall m.now ≡ record { told = done.told; rec = done.rec; last = clock.new.last; part = self.new }) }
         ensures ceiling { clock.new.ceiling ≡ clock.old.ceiling }
         ensures err { OnErr result ((self.new ≡ self.old) × (clock.new ≡ clock.old)) }
+        ensures memory { OnErr result (may_tell_memory self.old m.now.lsid m.now.number m.now.tag ≡ true) }
     {
         let Some(session) = self.session(&m.lsid) else {
             return Ok(self.commit_none(m));

@@ -1,5 +1,6 @@
-ghost use Rattle.std.specs.Prelude.{◌≡◌, IfOk, OnErr};
+ghost use Rattle.std.specs.Prelude.{◌≡◌, true, IfOk, OnErr};
 ghost use Rattle.participant.specs.Abort.{abort};
+ghost use Rattle.participant.specs.Memory.{may_tell_memory};
 ghost use Rattle.participant.specs.Recover.{recover, recovers_none};
 
 use crate::part::Participant;
@@ -33,6 +34,7 @@ impl Participant {
     pub fn recover(&mut self, m: &Recover) -> Result<Told, PartErr>
         ensures told { IfOk result (λ told. recover self.old m.now ≡ (told, self.new)) }
         ensures err { OnErr result (self.new ≡ self.old) }
+        ensures memory { OnErr result (may_tell_memory self.old m.now.lsid m.now.number m.now.tag ≡ true) }
     {
         let Some(session) = self.session(&m.lsid) else {
             return Ok(self.recover_none(m));

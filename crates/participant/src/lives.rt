@@ -1,4 +1,4 @@
-ghost use Rattle.std.specs.Prelude.{◌≡◌, [], find, map, option_map, IsOk, IsSome, OnOk, OnErr};
+ghost use Rattle.std.specs.Prelude.{◌≡◌, [], find, map, option_map, IsOk, IsSome, IfOk, OnOk, OnErr};
 ghost use Rattle.std.specs.Option.{option_copied};
 ghost use Rattle.txn_types.specs.BySession.{entry_of};
 ghost use Rattle.txn_types.specs.Order.{lsid_cmp};
@@ -8,11 +8,11 @@ ghost use Rattle.participant.specs.Stands.{is_older};
 
 use crate::key::SessionKey;
 use crate::said::Open;
-use std::alloc::{AllocFailed, Global};
+use std::alloc::{AllocError, AllocFailed, Global};
 use std::collections::BTreeMap;
 use std::marker::Model;
 use txn_types::{Lsid, Tag, Ts, Writes};
-use version_store::{Key, Keys};
+use version_store::{Key, Keys, copy_keys};
 
 /// A transaction that isn't prepared lives so many seconds.
 const LIFETIME: u32 = 60;
@@ -46,6 +46,15 @@ impl Live {
         ensures { result ≡ held }
     {
         Live { held, keys }
+    }
+
+    pub fn copy(&self, alloc: Global) -> Result<Live, AllocError>
+        ensures { IfOk result (λ l. l ≡ self.now) }
+    {
+        Ok(Live {
+            held: self.held.copy(alloc)?,
+            keys: copy_keys(alloc, &self.keys)?,
+        })
     }
 
     pub fn open(&self) -> &Open
@@ -103,6 +112,17 @@ impl Lives {
         Lives {
             lives: BTreeMap::new(alloc),
         }
+    }
+
+    pub fn copy(&self, alloc: Global) -> Result<Lives, AllocError>
+        ensures { IfOk result (λ l. l ≡ self.now) }
+    {
+        let _count = self.len();
+        let mut copy = Lives::new(alloc);
+        for (key, live) in &self.lives {
+            copy.put(key.lsid(), live.copy(alloc)?)?;
+        }
+        Ok(copy)
     }
 
     /// How many live transactions there are.

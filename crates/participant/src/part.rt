@@ -1,4 +1,4 @@
-ghost use Rattle.std.specs.Prelude.{◌≡◌, [], IsSomeAnd};
+ghost use Rattle.std.specs.Prelude.{◌≡◌, [], IfOk, IsSomeAnd};
 ghost use Rattle.std.specs.Option.{option_copied};
 ghost use Rattle.session_table.specs.declared.session.SessionState.TheVariants.{Live};
 ghost use Rattle.participant.specs.Part.{session, end_live};
@@ -7,10 +7,10 @@ ghost use Rattle.participant.specs.Stands.{Stands};
 use crate::lives::Lives;
 use session_table::{Session, SessionState, Sessions};
 use sqlite_items::Items;
-use std::alloc::Global;
+use std::alloc::{AllocError, Global};
 use std::marker::Model;
 use txn_types::{Cause, Lsid, Ts};
-use version_store::{Pendings, Store};
+use version_store::{Pendings, Store, copy_pendings};
 
 /// A shard's part in transactions: its sessions, what its live transactions have, its prepared ones, and the versions of
 /// its documents.
@@ -79,6 +79,21 @@ impl Participant {
             pending,
             store,
         }
+    }
+
+    /// A copy of all that the part has.
+    pub fn copy(&self) -> Result<Participant, AllocError>
+        ensures { IfOk result (λ copy. copy ≡ self.now) }
+    {
+        Ok(Participant {
+            alloc: self.alloc,
+            shard: self.shard,
+            boot: self.boot,
+            sessions: self.sessions.copy(self.alloc)?,
+            live: self.live.copy(self.alloc)?,
+            pending: copy_pendings(self.alloc, &self.pending)?,
+            store: self.store.copy()?,
+        })
     }
 
     /// The session's newest transaction here.

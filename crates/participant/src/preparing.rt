@@ -1,4 +1,4 @@
-ghost use Rattle.std.specs.Prelude.{◌≡◌, ◌≢◌, ◌≤◌, ◌⊎◌, ℕ, None, Some, Ok, Err, map, option_map, IfOk, IsSomeAnd, OnErr};
+ghost use Rattle.std.specs.Prelude.{◌≡◌, ◌≢◌, ◌≤◌, ◌⊎◌, ℕ, None, Some, Ok, Err, true, map, option_map, IfOk, IsSomeAnd, OnErr};
 ghost use Rattle.txn_types.specs.Clock.{last_time, next_time};
 ghost use Rattle.txn_types.specs.declared.cause.Cause.TheVariants as cause;
 ghost use Rattle.txn_semantics.specs.Writes.{place_of};
@@ -7,6 +7,7 @@ ghost use Rattle.session_table.specs.declared.session.Session.{Session};
 ghost use Rattle.session_table.specs.declared.session.SessionState.TheVariants as state;
 ghost use Rattle.version_store.specs.Versions.{prepared, keys_of};
 ghost use Rattle.participant.specs.declared.said.Open.{Open};
+ghost use Rattle.participant.specs.Memory.{may_tell_memory};
 ghost use Rattle.participant.specs.Part.{session, open_of, ended, is_replaced};
 ghost use Rattle.participant.specs.Prepare.{prepare, prepares_live, prepares_open, vetoes};
 ghost use Rattle.participant.specs.Stands.{pending_of, pending_keys};
@@ -68,6 +69,7 @@ impl Participant {
         ensures voted { IfOk result (λ voted. prepare self.old clock.old.last wall m.now ≡ record { told = voted.vote; rec = voted.rec; last = clock.new.last; part = self.new }) }
         ensures ceiling { clock.new.ceiling ≡ clock.old.ceiling }
         ensures err { OnErr result ((self.new ≡ self.old) × (clock.new ≡ clock.old)) }
+        ensures memory { OnErr result (may_tell_memory self.old m.now.lsid m.now.number m.now.tag ≡ true) }
     {
         let Some(session) = self.session(&m.lsid) else {
             return Ok(self.prepare_none(m));

@@ -1,8 +1,8 @@
-ghost use Rattle.std.specs.Prelude.{◌≡◌};
+ghost use Rattle.std.specs.Prelude.{◌≡◌, IfOk};
 ghost use Rattle.participant.specs.declared.said.PartErr.TheVariants.{Memory};
 
 use journal_rec::Rec;
-use std::alloc::{AllocError, AllocFailed};
+use std::alloc::{AllocError, AllocFailed, Global};
 use txn_types::{Cause, OpErr, OpReply, Tag, Told, Ts, Writes};
 use version_store::Held;
 
@@ -20,6 +20,22 @@ pub struct Open {
     pub wrote: bool,
     /// Its last write to each document, rising by namespace and id.
     pub writes: Writes,
+}
+
+impl Open {
+    pub fn copy(&self, alloc: Global) -> Result<Open, AllocError>
+        ensures { IfOk result (λ o. o ≡ self.now) }
+    {
+        Ok(Open {
+            tag: self.tag,
+            read_at: self.read_at,
+            begun: self.begun,
+            k: self.k,
+            reply: self.reply.copy(alloc)?,
+            wrote: self.wrote,
+            writes: self.writes.copy(alloc)?,
+        })
+    }
 }
 
 /// What is said to a statement.

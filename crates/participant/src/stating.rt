@@ -12,6 +12,7 @@ ghost use Rattle.version_store.specs.Versions.{scan, versions_of, against, confl
 ghost use Rattle.version_store.specs.Refusals.{IsHeld};
 ghost use Rattle.version_store.specs.TakenBack.{AreFree};
 ghost use Rattle.participant.specs.declared.said.Said.TheVariants as said;
+ghost use Rattle.participant.specs.Memory.{may_tell_memory};
 ghost use Rattle.participant.specs.Part.{session, open_of, elsewhere};
 ghost use Rattle.participant.specs.Statement.{
   statement,
@@ -122,6 +123,7 @@ impl Participant {
         ensures said { IfOk result (λ said. statement self.old clock.old.last wall m.now ≡ (said, self.new)) }
         ensures clock { clock.new ≡ clock.old }
         ensures err { OnErr result (self.new ≡ self.old) }
+        ensures memory { OnErr result (may_tell_memory self.old m.now.lsid m.now.number m.now.tag ≡ true) }
     {
         let last = clock.last;
         let Some(session) = self.session(&m.lsid) else {

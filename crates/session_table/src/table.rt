@@ -1,4 +1,4 @@
-ghost use Rattle.std.specs.Prelude.{◌≡◌, ◌++◌, ◌∷◌, [], List, length, slice_get, None, Some, option_map, IsOk, IsSome, IfErr, IfSome, OnOk, OnErr};
+ghost use Rattle.std.specs.Prelude.{◌≡◌, ◌++◌, ◌∷◌, [], List, length, slice_get, None, Some, option_map, IsOk, IsSome, IfOk, IfErr, IfSome, OnOk, OnErr};
 ghost use Rattle.std.specs.Option.{option_copied};
 ghost use Rattle.txn_types.specs.declared.node.Lsid.{Lsid};
 ghost use Rattle.session_table.specs.declared.session.Session.{Session};
@@ -18,7 +18,7 @@ ghost use Rattle.session_table.specs.Refusals.{IsRefused};
 use crate::key::Key;
 use crate::session::{Session, SessionErr, SessionState};
 use indexmap::IndexMap;
-use std::alloc::{AllocFailed, Global};
+use std::alloc::{AllocError, AllocFailed, Global};
 use std::cmp::Ordering;
 use std::marker::Model;
 use txn_types::{Lsid, Tag};
@@ -51,6 +51,16 @@ impl Sessions {
             limit,
             entries: IndexMap::new(alloc),
         }
+    }
+
+    pub fn copy(&self, alloc: Global) -> Result<Sessions, AllocError>
+        ensures { IfOk result (λ s. s ≡ self.now) }
+    {
+        let mut copy = Sessions::new(alloc, self.limit);
+        for (key, session) in &self.entries {
+            copy.set(key.lsid(), session.copy(alloc)?)?;
+        }
+        Ok(copy)
     }
 
     /// The session's newest transaction. It takes no memory.

@@ -23,7 +23,7 @@ use Rattle.txn_semantics.specs.Writes.{Place, place_cmp}
 use Rattle.version_store.specs.declared.version.Held.{Held}
 use Rattle.version_store.specs.declared.version.Version.{Version}
 use Rattle.version_store.specs.Versions.{Versions, first, other_writer_of, versions_of, without, touched_keys, held_among, rows_among, scan, holder, seen, unless}
-use Rattle.version_store.specs.Chains.{IsHistory, IsCollection, IsKept, Each, versions_at, changed_at, with_versions}
+use Rattle.version_store.specs.Chains.{IsHistory, IsCollection, AreCollections, IsKept, Each, versions_at, changed_at, with_versions}
 use Rattle.version_store.specs.Collections.{Documents, touched_of, held_of, rows_of, look}
 use Rattle.version_store.specs.Nested.{under_first, flattened}
 use Rattle.version_store.proofs.Histories.{Line, each_put, each_set, each_found, put_history, kept_all}
@@ -59,9 +59,13 @@ pub histories_flattened : (groups : Groups) → Each IsCollection groups → Eac
 histories_flattened [] h = tt
 histories_flattened (group ∷ groups) h = histories_under group.0 group.1 (flattened groups) h.0.histories (histories_flattened groups h.1)
 
-pub kept_flattened : (groups : Groups) → Rises ns_cmp groups → Each IsCollection groups → IsKept (flattened groups)
-kept_flattened groups r h =
-    record { rises = nested.rises_flattened ns_cmp id_cmp nat_list_cmp_total exact_bytes groups r (all_rise groups h); histories = histories_flattened groups h }
+pub kept_flattened : (groups : Groups) → AreCollections groups → IsKept (flattened groups)
+kept_flattened groups h =
+    record {
+      rises = nested.rises_flattened ns_cmp id_cmp nat_list_cmp_total exact_bytes groups h.rises (all_rise groups h.collections);
+      histories = histories_flattened groups h.collections;
+      ids = h.ids;
+    }
 
 -- the versions of a document
 pub versions_nested : (ns : List ℕ) (id : Id) (groups : Groups) → Rises ns_cmp groups → versions_of (flattened groups) (ns, id) ≡ versions_at id_cmp id (group_of ns groups)
@@ -109,6 +113,16 @@ pub insert_laid : {T E : Type 0} (tag : Tag) (ns : List ℕ) (id : Id) (version 
     → OnOk r (flattened left ≡ put place_cmp (ns, id) (version ∷ without tag (versions_of store (ns, id))) store)
 insert_laid tag ns id version new now groups left store (Ok t) same e r there is ok = ap flattened ok ∙ laid_new tag ns id version new now groups store same e r there is
 insert_laid tag ns id version new now groups left store (Err f) same e r there is ok = tt
+
+pub set_left : {T E : Type 0} (ns : List ℕ) (docs new : Documents) (groups left : Groups) (store : Versions) (r : Result T E) → flattened groups ≡ store → lookup (is_at (ns_cmp ns)) groups ≡ Some docs
+    → left ≡ set_value (is_at (ns_cmp ns)) groups new → OnErr r (new ≡ docs) → OnErr r (flattened left ≡ store)
+set_left ns docs new groups left store (Ok t) e there set is = tt
+set_left ns docs new groups left store (Err f) e there set is =
+    ap flattened (set ∙ ap (set_value (is_at (ns_cmp ns)) groups) is ∙ keyed.set_same ns_cmp ns docs groups there) ∙ e
+
+pub insert_left : {T E : Type 0} (now groups left : Groups) (store : Versions) (r : Result T E) → now ≡ groups → flattened groups ≡ store → OnErr r (left ≡ now) → OnErr r (flattened left ≡ store)
+insert_left now groups left store (Ok t) same e is = tt
+insert_left now groups left store (Err f) same e is = ap flattened (is ∙ same) ∙ e
 
 -- and still collections
 kept_put : (tag : Tag) (id : Id) (version : Version) (docs new : Documents) → new ≡ put id_cmp id (version ∷ without tag (versions_at id_cmp id docs)) docs

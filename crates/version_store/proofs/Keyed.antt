@@ -1,5 +1,5 @@
 -- Lists by key as a tree keeps them: what is found under a key, what is put there, and what changes there.
-use Rattle.std.proofs.Common.{◌≡◌, Bool, true, false, cond, List, [], ◌∷◌, Option, Some, None, find, option_map, refl, ap, sym, subst, ◌∙◌}
+use Rattle.std.proofs.Common.{◌≡◌, Bool, true, false, cond, List, [], ◌∷◌, ◌++◌, Option, Some, None, find, option_map, refl, ap, sym, subst, ◌∙◌}
 use Rattle.std.specs.List.{AllByRecursion}
 use Rattle.std.specs.List.Sorted.{IsStrictlySortedBy}
 use Rattle.std.specs.Map.{lookup, set_value, keys_of as map_keys}
@@ -8,6 +8,7 @@ use Rattle.std.specs.Cmp.{IsTotalOrder}
 use Rattle.std.specs.Ordering.{is_eq, match_ordering, ordering_reverse}
 use Rattle.std.specs.declared.cmp.Ordering.{Ordering}
 use Rattle.std.specs.declared.cmp.Ordering.TheVariants.{Less, Equal, Greater}
+use Rattle.std.proofs.lemmas.List.{append_assoc}
 use Rattle.std.proofs.lemmas.Map.Lookups.{CmpEqualImpliesEq}
 use Rattle.txn_semantics.specs.Keyed.{put, AllAbove, Rises}
 use Rattle.txn_semantics.proofs.Laying as laying
@@ -124,6 +125,30 @@ module _ {K V : Type 0} (cmp : K → K → Ordering) (total : IsTotalOrder cmp) 
   pub inserted : (key : K) (v : V) (rows : List (K × V)) → insert_entry cmp rows key v ≡ put cmp key v rows
   inserted key v [] = refl
   inserted key v (row ∷ rows) = inserted_case key v row rows _ (cmp key row.0) refl (inserted key v rows)
+
+  -- a key behind all is put last
+  low_less : (low key : K) (v : V) (xs rest : List (K × V)) → AllAbove cmp low (xs ++ (key, v) ∷ rest) → cmp low key ≡ Less
+  low_less low key v [] rest h = h.0
+  low_less low key v (x ∷ xs) rest h = low_less low key v xs rest h.1
+
+  put_last : (key : K) (v : V) (xs rest : List (K × V)) → Rises cmp (xs ++ (key, v) ∷ rest) → put cmp key v xs ≡ xs ++ (key, v) ∷ []
+  put_last key v [] rest r = refl
+  put_last key v (x ∷ xs) rest r =
+      put_behind cmp key v x xs (back_less cmp total x.0 key (low_less x.0 key v xs rest r.0)) ∙ ap (λ (ys : List (K × V)). x ∷ ys) (put_last key v xs rest r.1)
+
+  -- one more entry of a tree is copied: the copy, and what is left to copy, are still what they were
+  pub put_on : (P : List (K × V) → Type 0) (copy new steps left : List (K × V)) (key key_again : K) (v v_again : V) → Rises cmp (copy ++ steps) → steps ≡ (key, v) ∷ left → key_again ≡ key → v_again ≡ v
+      → new ≡ put cmp key_again v_again copy → P (copy ++ steps) → P (new ++ left)
+  put_on P copy new steps left key key_again v v_again r next same_key same_value is so_far =
+      let whole : copy ++ (key, v) ∷ left ≡ copy ++ steps = ap (λ (xs : List (K × V)). copy ++ xs) (sym next) in
+      let now : new ≡ copy ++ (key, v) ∷ [] =
+      is ∙ ap (λ (k : K). put cmp k v_again copy) same_key ∙ ap (λ (x : V). put cmp key x copy) same_value ∙ put_last key v copy left (subst (Rises cmp) (sym whole) r) in
+      subst P (sym (ap (λ (xs : List (K × V)). xs ++ left) now ∙ append_assoc copy ((key, v) ∷ []) left ∙ whole)) so_far
+
+  pub copied_on : (P : List (K × V) → Type 0) (copy new steps left : List (K × V)) (key key_again : K) (v v_again : V) → Rises cmp (copy ++ steps) → steps ≡ (key, v) ∷ left → key_again ≡ key → v_again ≡ v
+      → new ≡ insert_entry cmp copy key_again v_again → P (copy ++ steps) → P (new ++ left)
+  copied_on P copy new steps left key key_again v v_again r next same_key same_value is so_far =
+      put_on P copy new steps left key key_again v v_again r next same_key same_value (is ∙ inserted key_again v_again copy) so_far
 
   above_all : (key : K) (row : K × V) (rows : List (K × V)) → cmp key row.0 ≡ Less → Rises cmp (row ∷ rows) → AllAbove cmp key rows
   above_all key row rows is r = laying.above_trans cmp total exact key row.0 rows is r.0

@@ -2,6 +2,7 @@ pub mod Chained
 pub mod Keyed
 pub mod Nested
 pub mod Histories
+pub mod Ids
 pub mod Documents
 pub mod Groups
 pub mod Whole

@@ -16,6 +16,8 @@ use Rattle.txn_types.specs.declared.cause.By.TheVariants as reason
 use Rattle.txn_types.specs.declared.id.Id.{Id}
 use Rattle.txn_types.specs.declared.names.Tag.{Tag}
 use Rattle.txn_types.specs.declared.write.Write.{Write}
+use Rattle.txn_types.specs.Writes as txn
+use Rattle.txn_types.specs.Writes.{AllKept}
 use Rattle.txn_types.proofs.Orders.{tag_total, tag_exact}
 use Rattle.txn_semantics.specs.Keyed.{put, Rises}
 use Rattle.txn_semantics.specs.Writes.{Place, place_of, place_cmp}
@@ -26,9 +28,11 @@ use Rattle.version_store.specs.declared.version.Stamp.TheVariants.{Unfinished}
 use Rattle.version_store.specs.declared.version.Version.{Version}
 use Rattle.version_store.specs.Versions.{Versions, first, is_of, other_writer_of, versions_of, without, with_write, with_writes, content_of, conflict, against, commit_above, newest_of}
 use Rattle.version_store.specs.Chains.{AreCommitted, IsChain, IsHistory, IsKept, changed_at, with_versions}
-use Rattle.version_store.specs.TakenBack.{AreFree, laid_by, put_back, taken_back_at, taken_back, all_taken_back}
+use Rattle.version_store.specs.Ids.{HoldsId}
+use Rattle.version_store.specs.TakenBack.{AreFree, HadIds, laid_by, put_back, taken_back_at, taken_back, all_taken_back}
 use Rattle.version_store.proofs.Chained.{lost_version, kept_version, without_committed, not_own}
 use Rattle.version_store.proofs.Histories.{Line, each_found, each_put, put_history, kept_all, free_rest}
+use Rattle.version_store.proofs.Ids.{id_found, ids_found, ids_with}
 use Rattle.version_store.proofs.Keyed as keyed
 
 -- a change of what was put
@@ -240,19 +244,33 @@ pub record IsLaying (tag : Tag) (store : Versions) (laid : List Laid) (left : Li
   pub forth : with_writes tag store left ≡ with_writes tag begun writes
   pub back : all_taken_back tag laid store ≡ begun
   pub free : AreFree tag store left
+  pub known : AllKept left
+  pub had : HadIds laid
   pub kept : IsKept store
 
-pub laying_begun : (tag : Tag) (store : Versions) (writes : List Write) → AreFree tag store writes → IsKept store → IsLaying tag store [] writes store writes
-laying_begun tag store writes free kept = record { forth = refl; back = refl; free = free; kept = kept }
+pub laying_begun : (tag : Tag) (store : Versions) (writes : List Write) → AreFree tag store writes → AllKept writes → IsKept store → IsLaying tag store [] writes store writes
+laying_begun tag store writes free known kept = record { forth = refl; back = refl; free = free; known = known; had = tt; kept = kept }
 
-kept_behind : (tag : Tag) (store : Versions) (write : Write) → IsKept store → Free tag (versions_of store (place_of write)) → IsKept (with_write tag store write)
-kept_behind tag store write kept free =
+kept_behind : (tag : Tag) (store : Versions) (write : Write) → IsKept store → txn.IsKept write → Free tag (versions_of store (place_of write)) → IsKept (with_write tag store write)
+kept_behind tag store write kept known free =
     let place : Place = place_of write in
     let line : Line = version_of tag write ∷ without tag (versions_of store place) in
     record {
       rises = laying.rises_put place_cmp place_total place_exact place line store kept.rises;
       histories = each_put place_cmp IsHistory place line store (put_history tag (version_of tag write) (versions_of store place) free (chain_of place store kept)) kept.histories;
+      ids = ids_with tag store write known kept.ids;
     }
+
+had_more : (laid : List Laid) (last : Laid) → HadIds laid → HoldsId last.key.1 last.replaced → HadIds (laid ++ last ∷ [])
+had_more [] last had one = (one, tt)
+had_more (other ∷ laid) last had one = (had.0, had_more laid last had.1 one)
+
+-- and without the last
+pub had_less : (laid : List Laid) (last : Laid) → HadIds (laid ++ last ∷ []) → HadIds laid × HoldsId last.key.1 last.replaced
+had_less [] last had = (tt, had.0)
+had_less (other ∷ laid) last had =
+    let less = had_less laid last had.1 in
+    ((had.0, less.0), less.1)
 
 pub laying_on : (tag : Tag) (old new : Versions) (laid after : List Laid) (last : Laid) (write : Write) (left : List Write) (begun : Versions) (writes : List Write) → new ≡ with_write tag old write → after ≡ laid ++ last ∷ []
     → last ≡ laid_by tag old write → IsLaying tag old laid (write ∷ left) begun writes → IsLaying tag new after left begun writes
@@ -265,7 +283,11 @@ laying_on tag old new laid after last write left begun writes is more one h =
       forth = ap (λ (s : Versions). with_writes tag s left) is ∙ h.forth;
       back = ap (λ (l : List Laid). all_taken_back tag l new) more ∙ back_last tag laid last new ∙ ap (all_taken_back tag laid) again ∙ h.back;
       free = subst (λ (s : Versions). AreFree tag s left) (sym is) (free_behind tag old write left h.kept h.free.0 h.free.1);
-      kept = subst IsKept (sym is) (kept_behind tag old write h.kept h.free.0);
+      known = h.known.1;
+      had =
+          subst HadIds (sym more)
+          (had_more laid last h.had (subst (λ (l : Laid). HoldsId l.key.1 l.replaced) (sym one) (id_found (place_of write).1 (is_of tag) (versions_of old (place_of write)) (ids_found (place_of write) old h.kept.ids))));
+      kept = subst IsKept (sym is) (kept_behind tag old write h.kept h.known.0 h.free.0);
     }
 
 -- what was noted and didn't come about

@@ -15,6 +15,8 @@ use Rattle.txn_semantics.specs.Keyed.{Rises}
 use Rattle.txn_semantics.specs.Writes.{Place, place_cmp}
 use Rattle.version_store.specs.declared.version.Version.{Version}
 use Rattle.version_store.specs.Versions.{Versions, first, writer_of, is_of}
+use Rattle.version_store.specs.Ids.{HaveIds}
+use Rattle.version_store.specs.Nested.{flattened}
 
 -- all are committed
 abbrev pub AreCommitted : List Version → Type 0
@@ -45,15 +47,18 @@ pub record IsCollection (rows : List (Id × List Version)) : Type 0 where
   pub rises : Rises id_cmp rows
   pub histories : Each IsHistory rows
 
--- the namespaces rise, each with its documents
+-- the namespaces rise, each with its documents, which stand under their own ids
 pub record AreCollections (groups : List (List ℕ × List (Id × List Version))) : Type 0 where
   pub rises : Rises (slice_cmp nat_cmp) groups
   pub collections : Each IsCollection groups
+  pub ids : HaveIds (flattened groups)
 
--- what a store keeps: the keys rise, each has a version, and all versions of a key but the first are committed
+-- what a store keeps: the keys rise, each has a version, all versions of a key but the first are committed, and each
+-- document stands under its own id
 pub record IsKept (store : Versions) : Type 0 where
   pub rises : Rises place_cmp store
   pub histories : Each IsHistory store
+  pub ids : HaveIds store
 
 -- the versions under a key
 abbrev pub versions_at : {K : Type 0} → (K → K → Ordering) → K → List (K × List Version) → List Version

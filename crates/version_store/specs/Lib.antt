@@ -1,4 +1,5 @@
 pub mod Versions
+pub mod Ids
 pub mod Nested
 pub mod Chains
 pub mod Collections

@@ -8,6 +8,7 @@ use Rattle.version_store.specs.declared.version.Version.{Version}
 use Rattle.version_store.specs.declared.laid.Laid.{Laid}
 use Rattle.version_store.specs.Versions.{Versions, first, other_writer_of, is_of, versions_of, without}
 use Rattle.version_store.specs.Chains.{begins, changed_at, with_versions}
+use Rattle.version_store.specs.Ids.{HoldsId}
 
 -- where these write, no other transaction has a version
 abbrev pub AreFree : Tag → Versions → List Write → Type 0
@@ -21,6 +22,11 @@ put_back tag version versions = if begins tag versions then version ∷ without 
 -- what a write replaces
 abbrev pub laid_by : Tag → Versions → Write → Laid
 laid_by tag store write = record { key = place_of write; replaced = find (is_of tag) (versions_of store (place_of write)) }
+
+-- what was replaced stood under its own id
+abbrev pub HadIds : List Laid → Type 0
+HadIds [] = Unit {0}
+HadIds (laid ∷ others) = HoldsId laid.key.1 laid.replaced × HadIds others
 
 -- without the transaction's version of a document, or with its older one again
 abbrev pub taken_back_at : Tag → Place → Option Version → Versions → Versions

@@ -9,7 +9,7 @@ ghost use Rattle.version_store.specs.declared.version.Version.{Version};
 
 use crate::version::{Stamp, Version};
 use bson_core::Doc;
-use std::alloc::Global;
+use std::alloc::{AllocError, Global};
 use std::marker::Model;
 use txn_types::{By, Tag, Ts};
 
@@ -216,6 +216,16 @@ impl Chain {
             Ok(()) => Ok(Chain { versions }),
             Err(failed) => Err(failed.value),
         }
+    }
+
+    pub fn copy(&self, alloc: Global) -> Result<Chain, AllocError>
+        ensures { IfOk result (λ c. c ≡ self.now) }
+    {
+        let mut versions = Vec::new(alloc);
+        for version in self.versions.as_slice() {
+            versions.push(version.copy(alloc)?)?;
+        }
+        Ok(Chain { versions })
     }
 
     pub fn as_slice(&self) -> &[Version]

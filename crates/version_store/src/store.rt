@@ -16,6 +16,7 @@ ghost use Rattle.std.specs.Prelude.{
 };
 ghost use Rattle.std.specs.List.{filter_map};
 ghost use Rattle.std.specs.Option.{option_copied};
+ghost use Rattle.txn_types.specs.Writes.{AllKept, IsKept as IsKeptWrite};
 ghost use Rattle.txn_semantics.specs.Keyed.{put};
 ghost use Rattle.txn_semantics.specs.Writes.{place_of, place_cmp};
 ghost use Rattle.version_store.specs.Versions.{
@@ -44,8 +45,10 @@ ghost use Rattle.version_store.specs.Chains.{
   changed_under,
   with_versions,
 };
+ghost use Rattle.version_store.specs.Ids.{HasId, HoldsId};
 ghost use Rattle.version_store.specs.TakenBack.{
   AreFree,
+  HadIds,
   put_back,
   laid_by,
   taken_back,
@@ -66,8 +69,8 @@ use std::collections::BTreeMap;
 use std::marker::Model;
 use txn_types::{By, Id, Ns, Tag, Ts, Write};
 
-/// The versions of all documents. Contracts see them by key: the keys rise, each has a version, and
-/// all versions of a key but the first are committed.
+/// The versions of all documents. Contracts see them by key: the keys rise, each has a version, all
+/// versions of a key but the first are committed, and each document stands under its own id.
 #[derive(Drop)]
 pub struct Store {
     alloc: Global,
@@ -194,8 +197,23 @@ impl Store {
         }
     }
 
+    /// A copy of all versions.
+    pub fn copy(&self) -> Result<Store, AllocError>
+        ensures { IfOk result (λ s. s ≡ self.now) }
+    {
+        let mut collections = BTreeMap::new(self.alloc);
+        for (ns, collection) in &self.collections {
+            collections.insert(ns.copy(self.alloc)?, collection.copy(self.alloc)?)?;
+        }
+        Ok(Store {
+            alloc: self.alloc,
+            collections,
+        })
+    }
+
     /// Puts a write of the transaction. A write that isn't put comes back.
     pub fn put(&mut self, tag: Tag, at: Ts, write: Write) -> Result<(), (PutErr, Write)>
+        requires { IsKeptWrite write }
         ensures free { OnOk result (against at tag (versions_of self.old (place_of write)) ≡ None) }
         ensures ok { OnOk result (self.new ≡ with_write tag self.old write) }
         ensures refused { IfErr result (λ e. IsRefused (place_of write) (against at tag (versions_of self.old (place_of write))) e.0) }
@@ -222,7 +240,8 @@ impl Store {
 
     /// Puts a version of the transaction where no other one has a version.
     fn lay(&mut self, tag: &Tag, ns: Ns, id: Id, version: Version) -> Result<(), (Ns, Id, Version)>
-        requires { first (filter_map (other_writer_of tag.now) (versions_of self.old (ns, id))) ≡ None }
+        requires free { first (filter_map (other_writer_of tag.now) (versions_of self.old (ns, id))) ≡ None }
+        requires known { HasId id version.doc }
         ensures ok { OnOk result (self.new ≡ put place_cmp (ns, id) (version ∷ without tag.now (versions_of self.old (ns, id))) self.old) }
         ensures back { IfErr result (λ e. e ≡ (ns, id, version)) }
         ensures err { OnErr result (self.new ≡ self.old) }
@@ -251,7 +270,8 @@ impl Store {
     /// Puts copies of all writes of the transaction, or none: where there is no memory, nothing has
     /// changed.
     pub fn put_all(&mut self, tag: Tag, writes: &[Write]) -> Result<(), AllocError>
-        requires { AreFree tag self.old writes.now }
+        requires free { AreFree tag self.old writes.now }
+        requires kept { AllKept writes.now }
         ensures ok { OnOk result (self.new ≡ with_writes tag self.old writes.now) }
         ensures err { OnErr result (self.new ≡ self.old) }
     {
@@ -271,7 +291,8 @@ impl Store {
     /// Puts a copy of a write of the transaction where no other one has a version, and adds what it
     /// replaced.
     fn lay_copy(&mut self, tag: &Tag, write: &Write, laid: &mut Vec<Laid>) -> Result<(), AllocError>
-        requires { first (filter_map (other_writer_of tag.now) (versions_of self.old (place_of write.now))) ≡ None }
+        requires free { first (filter_map (other_writer_of tag.now) (versions_of self.old (place_of write.now))) ≡ None }
+        requires kept { IsKeptWrite write.now }
         ensures ok { OnOk result (self.new ≡ with_write tag.now self.old write.now) }
         ensures laid { OnOk result (laid.new.items ≡ laid.old.items ++ laid_by tag.now self.old write.now ∷ []) }
         ensures err { OnErr result (self.new ≡ self.old) }
@@ -307,6 +328,7 @@ impl Store {
 
     /// Takes back all writes that were put, the last one first.
     fn take_all_back(&mut self, tag: &Tag, laid: Vec<Laid>)
+        requires { HadIds laid.items }
         ensures { self.new ≡ all_taken_back tag.now laid.items self.old }
     {
         let mut left = laid;
@@ -317,6 +339,7 @@ impl Store {
 
     /// Takes back a write that was put.
     fn take_back(&mut self, tag: &Tag, laid: Laid)
+        requires { HoldsId laid.key.1 laid.replaced }
         ensures { self.new ≡ taken_back tag.now laid self.old }
     {
         let Laid { key, replaced } = laid;
@@ -328,6 +351,7 @@ impl Store {
 
     /// Puts a version in place of the transaction's own one under a key, where it has one.
     fn put_back_at(&mut self, tag: &Tag, key: &Key, version: Version)
+        requires { HasId key.now.1 version.doc }
         ensures { self.new ≡ changed_at place_cmp (put_back tag.now version) key.now self.old }
     {
         if let Some(collection) = self.collections.get_mut(key.ns()) {

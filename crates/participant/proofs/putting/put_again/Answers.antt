@@ -1,4 +1,4 @@
-use Rattle.std.proofs.Common.{◌≡◌, ◌∙◌, ap, sym}
+use Rattle.std.proofs.Common.{◌∙◌, ap, sym}
 use Rattle.txn_types.specs.BySession.{entry_of}
 use Rattle.version_store.specs.Versions.{Versions, keys_of}
 use Rattle.participant.specs.Stands.{without_older}

@@ -1,5 +1,4 @@
-use Rattle.std.proofs.Common.{◌≡◌, ◌∙◌, ap}
-use Rattle.txn_types.specs.BySession.{BySession}
+use Rattle.std.proofs.Common.{◌∙◌, ap}
 use Rattle.session_table.specs.Sessions.{with_session}
 use Rattle.session_table.specs.declared.session.Session.{Session}
 use Rattle.participant.specs.Stands.{live_session}

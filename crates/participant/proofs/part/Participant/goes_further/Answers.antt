@@ -1,4 +1,4 @@
-use Rattle.std.proofs.Common.{◌≡◌, ◌∙◌, true, nat_eq, Option, Some, IfOk, IfSome, ap, sym, subst}
+use Rattle.std.proofs.Common.{◌≡◌, ◌∙◌, true, nat_eq, Option, Some, IfSome, ap, sym, subst}
 use Rattle.std.proofs.lemmas.Result.{IfOk-weaker}
 use Rattle.txn_types.specs.Order.{same_tag}
 use Rattle.txn_types.specs.declared.cause.Cause.TheVariants as cause

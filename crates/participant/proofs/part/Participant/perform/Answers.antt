@@ -1,5 +1,5 @@
 use Rattle.std.proofs.Common.{◌≡◌, ◌∙◌, IfOk, sym, subst, ap}
-use Rattle.participant.specs.Statement.{Turn, performed}
+use Rattle.participant.specs.Statement.{Turn}
 use Rattle.participant.specs.Stands.{mine}
 use Rattle.participant.proofs.Rules.{acting, performed_is}
 use Rattle.participant.proofs.part.Participant.perform.Goals as goal

@@ -1,11 +1,11 @@
-use Rattle.std.proofs.Common.{◌≡◌, ◌∙◌, false, List, ap, sym, subst}
+use Rattle.std.proofs.Common.{◌≡◌, ◌∙◌, false, ap, sym, subst}
 use Rattle.txn_types.specs.Order.{lsid_cmp}
 use Rattle.txn_semantics.specs.Keyed.{put}
 use Rattle.participant.specs.declared.said.Open.{Open}
 use Rattle.participant.specs.Part.{Part, session, elsewhere}
 use Rattle.participant.specs.Statement.{with_open, made_room, writes_with}
 use Rattle.participant.specs.Stands.{Stands, CanLeave, mine}
-use Rattle.participant.proofs.Statements.{live_keys, session_there, written_part, written_stands, written_by, room_is}
+use Rattle.participant.proofs.Statements.{live_keys, session_there, written_stands, written_by, room_is}
 use Rattle.participant.proofs.part.Participant.put.Goals as goal
 
 pub put_all-requires-clause-there : goal.put_all-requires-clause-there
@@ -26,7 +26,7 @@ invariant_of-self-2 c =
     let whole : c.args.entry.writes ≡ writes_with (mine p c.args.m.now) c.args.writes.now = subst (λ (q : Part). c.args.entry.writes ≡ writes_with (mine q c.args.m.now) c.args.writes.now) (sym c.self.view_is) c.requires.whole in
     let lives : c.put_all.new.lives ≡ put lsid_cmp c.args.m.now.lsid c.args.entry c.self.inside.live = c.in_ok-put_all.ensures.lives ∙ ap (λ (o : Open). put lsid_cmp c.args.m.now.lsid o c.self.inside.live) c.new-live.ensures in
     let gives = written_by p c.args.m.now c.args.entry c.args.writes.now c.put_all.new.sessions c.put_all.new.lives c.put_all.new.store c.in_ok-put_all.ensures.sessions lives c.in_ok-put_all.ensures.store in
-    subst Stands (sym gives) (written_stands p c.args.m.now c.args.entry c.args.writes.now c.self.invariant c.collections-collections.ensures.rises once left c.requires.kept c.requires.tag whole)
+    subst Stands (sym gives) (written_stands p c.args.m.now c.args.entry c.args.writes.now c.self.invariant c.collections-collections.ensures.rises once left c.requires.tag whole)
 
 pub returns-clause-ok : goal.returns-clause-ok
 returns-clause-ok c =

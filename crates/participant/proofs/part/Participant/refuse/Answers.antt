@@ -1,11 +1,11 @@
-use Rattle.std.proofs.Common.{◌≡◌, ◌∙◌, List, ap, sym, subst, refl}
+use Rattle.std.proofs.Common.{◌≡◌, ◌∙◌, ap, sym, subst, refl}
 use Rattle.txn_types.specs.declared.cause.Cause.{Cause}
 use Rattle.session_table.specs.Sessions.{with_session}
 use Rattle.session_table.specs.declared.session.Session.{Session}
 use Rattle.session_table.specs.declared.session.SessionState.TheVariants as state
 use Rattle.participant.specs.declared.said.Said.TheVariants.{Refused}
-use Rattle.participant.specs.Part.{Part, session, open_of, closed, without_live}
-use Rattle.participant.specs.Statement.{Turn, refuses, stands}
+use Rattle.participant.specs.Part.{Part, session, open_of}
+use Rattle.participant.specs.Statement.{Turn, refuses}
 use Rattle.participant.specs.Stands.{Stands, CanLeave}
 use Rattle.participant.proofs.Statements.{live_keys, refused_stands, refusing}
 use Rattle.participant.proofs.part.Participant.refuse.Goals as goal

@@ -1,4 +1,4 @@
-use Rattle.std.proofs.Common.{Option, Some, ℤ, w64, ap, ◌∙◌}
+use Rattle.std.proofs.Common.{Option, Some, ℤ, ap, ◌∙◌}
 use Rattle.std.proofs.Math.Facts.{to_z-of_z}
 use Rattle.session_table.specs.Sessions.{refusal_of}
 use Rattle.session_table.specs.declared.session.Session.{Session}

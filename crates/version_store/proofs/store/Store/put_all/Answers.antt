@@ -23,6 +23,6 @@ loop-write-preserved c =
 
 pub loop-write-init : goal.loop-write-init
 loop-write-init c =
-    let kept = subst IsKept c.self.view_is (kept_flattened c.self.inside.collections.entries c.self.invariant.rises c.self.invariant.collections) in
+    let kept = subst IsKept c.self.view_is (kept_flattened c.self.inside.collections.entries c.self.invariant) in
     subst (λ (laid : List Laid). IsLaying c.args.tag c.args.self.now laid c.args.writes.now c.args.self.now c.args.writes.now) (sym c.new-laid.ensures.items)
-    (laying_begun c.args.tag c.args.self.now c.args.writes.now c.requires kept)
+    (laying_begun c.args.tag c.args.self.now c.args.writes.now c.requires.free c.requires.kept kept)

@@ -8,9 +8,11 @@ use Rattle.version_store.specs.Versions.{restamped}
 use Rattle.version_store.specs.Chains.{IsCollection, AreCollections, Each, changed_at}
 use Rattle.version_store.specs.Collections.{Documents}
 use Rattle.version_store.specs.Nested.{flattened}
+use Rattle.version_store.specs.Ids.{HaveIds}
 use Rattle.version_store.proofs.Documents.{collection_stamped}
 use Rattle.version_store.proofs.Groups.{ns_cmp, changed_there, changed_nowhere}
 use Rattle.version_store.proofs.Histories.{each_set, each_found}
+use Rattle.version_store.proofs.Ids.{ids_changed, ids_restamped}
 use Rattle.version_store.proofs.Keyed.{rises_of}
 use Rattle.version_store.proofs.store.Store.restamp_at.Goals as goal
 use Rattle.version_store.proofs.store.Store.restamp_at.Goals.{in-Some, in_default}
@@ -42,15 +44,21 @@ invariant_of-self c =
     let ns = c.ns.result.now in
     let groups = c.self.inside.collections.entries in
     let all = c.self.invariant.collections in
+    let f = map (restamped c.args.tag.now c.args.stamp.now) in
+    let id = c.args.key.now.1 in
+    let store = c.args.self.now in
+    let ids = ids_changed f (ns, id) store (ids_restamped c.args.tag.now c.args.stamp.now id) (subst HaveIds c.self.view_is c.self.invariant.ids) in
     elim c.match-get_mut.branch [
       | in-Some w ↦
           let new = w.restamp.new.self in
           let old = w.in-Some.collection.now in
           let is : IsCollection new = subst IsCollection (sym w.restamp.ensures) (collection_stamped c.args.tag.now c.args.stamp.now w.id.result.now old (each_found ns_cmp IsCollection ns old groups (sym w.in-Some.ensures.value) all)) in
+          let left = changed_there f ns id old new groups store c.self.view_is c.self.invariant.rises (sym w.in-Some.ensures.value) (w.restamp.ensures ∙ ap (λ (i : Id). changed_at id_cmp f i old) w.id.ensures) in
           let held : AreCollections (c.get_mut.follows.lender new).entries =
           record {
             rises = rises_of ns_cmp (c.get_mut.follows.lender new).entries (c.get_mut.follows.holds new).4;
             collections = subst (Each IsCollection) (sym (c.get_mut.follows.holds new).0) (each_set ns_cmp IsCollection ns new groups is all);
+            ids = subst HaveIds (sym (ap flattened (c.get_mut.follows.holds new).0 ∙ left)) ids;
           } in
           subst the_invariant (sym w.self-inside-is) held
       | in_default w ↦ subst the_invariant (sym w.self-inside-is) (subst (λ (m : BTreeMap (List ℕ) Documents). AreCollections m.entries) (sym c.get_mut.follows.holds-at-none) c.self.invariant)
