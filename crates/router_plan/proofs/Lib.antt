@@ -1,0 +1,4 @@
+pub mod Clients
+pub mod Behind
+mod Placing
+pub mod Alone
