@@ -70,3 +70,25 @@ record_bytes (rec.CoordStart tag lsid number parts) = 6 ∷ named_bytes tag lsid
 record_bytes (rec.CoordDecision tag decision) = 7 ∷ tag_bytes tag ++ decision_bytes decision
 record_bytes (rec.CoordEnd tag) = 8 ∷ tag_bytes tag
 record_bytes (rec.Floor floor) = 9 ∷ time_bytes floor
+
+-- A record's bytes in two parts: what stands in front, at most 64 bytes, and the writes or the participants behind it.
+
+abbrev pub parts_bytes : List (ℕ × ℕ) → List ℕ
+parts_bytes parts = to_le_bytes w16 (length parts) ++ each_part_bytes parts
+
+abbrev pub front_bytes : Rec → List ℕ
+front_bytes (rec.Boot boot) = 1 ∷ to_le_bytes w32 boot
+front_bytes (rec.Ceiling bound) = 2 ∷ time_bytes bound
+front_bytes (rec.Commit tag lsid number read_at at writes) = 3 ∷ named_bytes tag lsid number ++ (time_bytes read_at ++ time_bytes at)
+front_bytes (rec.Prepared tag lsid number boot read_at at coordinator writes) = 4 ∷ named_bytes tag lsid number ++ preparing_bytes boot read_at at coordinator
+front_bytes (rec.Decided d) = decided_bytes d
+front_bytes (rec.CoordStart tag lsid number parts) = 6 ∷ named_bytes tag lsid number
+front_bytes (rec.CoordDecision tag decision) = 7 ∷ tag_bytes tag ++ decision_bytes decision
+front_bytes (rec.CoordEnd tag) = 8 ∷ tag_bytes tag
+front_bytes (rec.Floor floor) = 9 ∷ time_bytes floor
+
+abbrev pub body_bytes : Rec → List ℕ
+body_bytes (rec.Commit tag lsid number read_at at writes) = writes_bytes writes
+body_bytes (rec.Prepared tag lsid number boot read_at at coordinator writes) = writes_bytes writes
+body_bytes (rec.CoordStart tag lsid number parts) = parts_bytes parts
+body_bytes other = []

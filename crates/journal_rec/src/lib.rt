@@ -12,8 +12,8 @@ mod sizes;
 mod writing;
 
 pub use error::RecErr;
-pub use fixed::write_decided;
+pub use fixed::{write_decided, write_front};
 pub use reading::decode;
 pub use record::{Decided, Rec};
 pub use sizes::volume;
-pub use writing::encode;
+pub use writing::{encode, encode_parts, encode_writes};

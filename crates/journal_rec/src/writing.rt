@@ -4,7 +4,7 @@ ghost use Rattle.txn_types.specs.Ids.{value_of_id, id_document};
 ghost use Rattle.journal_rec.specs.Volume.{write_bytes, each_write_bytes, writes_bytes};
 ghost use Rattle.std.specs.Int.{w16, w32, to_le_bytes};
 ghost use Rattle.bson_core.specs.Spelling.{spelling};
-ghost use Rattle.journal_rec.specs.Spelling.{tag_bytes, named_bytes, decision_bytes, decided_bytes, part_bytes, each_part_bytes, preparing_bytes, time_bytes, record_bytes};
+ghost use Rattle.journal_rec.specs.Spelling.{tag_bytes, named_bytes, decision_bytes, decided_bytes, part_bytes, each_part_bytes, parts_bytes, preparing_bytes, time_bytes, record_bytes};
 
 use crate::error::RecErr;
 use crate::fixed::{decision_array, named_array, tag_array, write_decided};
@@ -254,6 +254,25 @@ fn put_record(alloc: Global, out: &mut Vec<u8>, rec: &Rec) -> Result<(), AllocEr
         Rec::CoordEnd { tag } => put_coord_end(out, *tag),
         Rec::Floor { floor } => put_one_time(out, 9, *floor),
     }
+}
+
+/// Appends the bytes of writes, as they stand in a record. It is refused for want of memory alone, which is also the answer
+/// for writes of more than 2,147,483,647 bytes.
+pub fn encode_writes(alloc: Global, writes: &[Write], out: &mut Vec<u8>) -> Result<(), RecErr>
+    ensures ok { OnOk result (out.new.items ≡ out.old.items ++ writes_bytes writes.now) }
+    ensures memory { IfErr result (λ e. e ≡ RecErr.Memory) }
+{
+    put_writes(alloc, out, writes)?;
+    Ok(())
+}
+
+/// Appends the bytes of participants, as they stand in a record.
+pub fn encode_parts(parts: &Parts, out: &mut Vec<u8>) -> Result<(), RecErr>
+    ensures ok { OnOk result (out.new.items ≡ out.old.items ++ parts_bytes parts.now) }
+    ensures memory { IfErr result (λ e. e ≡ RecErr.Memory) }
+{
+    put_coord_start(out, parts)?;
+    Ok(())
 }
 
 /// Appends the record's bytes, in its one spelling. It is refused for want of memory alone, which is also the answer for
