@@ -93,10 +93,14 @@ impl Standing {
     }
 
     fn put(&mut self, alloc: Global, asked: &Asked) -> Result<String, AllocError> {
+        let doc = document_of(alloc, asked.word(5), asked.word(7))?;
+        let Some(id) = Id::in_doc(alloc, &doc)? else {
+            return String::from_str(alloc, "no id");
+        };
         let write = Write::Put {
             ns: namespace_of(alloc, asked.word(4))?,
-            id: id_of(alloc, asked.word(5))?,
-            doc: document_of(alloc, asked.word(7))?,
+            id,
+            doc,
         };
         let answer = self.store.put(asked.tag(), asked.time(), write);
         words_of_put(alloc, &answer)

@@ -33,15 +33,24 @@ pub fn id_of(alloc: Global, word: &str) -> Result<Id, AllocError> {
     Ok(Id::Text(Text::new(String::from_str(alloc, word)?)))
 }
 
-/// The document `{v: VALUE}`.
-pub fn document_of(alloc: Global, word: &str) -> Result<Doc, AllocError> {
+/// The value of an id: a number, or else a text.
+fn value_of_id(alloc: Global, word: &str) -> Result<Value, AllocError> {
+    if let Ok(number) = word.parse::<i64>() {
+        return Ok(Value::Long(number));
+    }
+    Ok(Value::Text(Text::new(String::from_str(alloc, word)?)))
+}
+
+/// The document `{_id: ID, v: VALUE}`.
+pub fn document_of(alloc: Global, id: &str, word: &str) -> Result<Doc, AllocError> {
     let mut fields = Vec::new(alloc);
     let value = Value::Long(word.parse::<i64>().unwrap_or(0));
+    fields.push((Name::from_str(alloc, "_id")?, value_of_id(alloc, id)?))?;
     fields.push((Name::from_str(alloc, "v")?, value))?;
     Ok(Items::from_vec(fields))
 }
 
-/// The value of a document `{v: VALUE}`.
+/// The value of a document `{_id: ID, v: VALUE}`.
 pub fn value_in(doc: &Doc) -> i64 {
     match get(doc, "v") {
         Some(Value::Long(value)) => *value,
