@@ -18,13 +18,14 @@ use Rattle.participant.specs.declared.said.Open.{Open}
 use Rattle.participant.specs.Expiry.{lifetime, expire_all, expire}
 use Rattle.participant.specs.Part.{Part, session, open_of, ends_live, end_live}
 use Rattle.participant.proofs.Ends.{entry_without}
+use Rattle.participant.proofs.Tags.{tag_same}
 use Rattle.part_laws.specs.Each.{Each}
 use Rattle.part_laws.specs.Looked.{looked}
 use Rattle.part_laws.specs.Sound.{Opened, Opens, with_opened, Served}
 use Rattle.part_laws.specs.Steps.{decided_at, entry_of}
 use Rattle.part_laws.specs.Parts.{opened_of, AtState, AtSession, HeldBy, IsServing, Holds}
 use Rattle.part_laws.proofs.Looking.{looked_is_found}
-use Rattle.part_laws.proofs.Chains.{tag_same, each_weaker, each_both}
+use Rattle.part_laws.proofs.Chains.{each_weaker, each_both}
 use Rattle.part_laws.proofs.Ends.{clock_goes_on}
 use Rattle.part_laws.proofs.Entering.{enters}
 use Rattle.part_laws.proofs.Opening.{by_tag}

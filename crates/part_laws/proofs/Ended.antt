@@ -19,11 +19,12 @@ use Rattle.session_table.specs.declared.session.SessionState.TheVariants as stat
 use Rattle.participant.specs.declared.said.Open.{Open}
 use Rattle.participant.specs.Part.{Part, session, open_of, aborted, is_open}
 use Rattle.participant.proofs.Ends.{entry_elsewhere, entry_without}
+use Rattle.participant.proofs.Moving.{entry_here}
+use Rattle.participant.proofs.Tags.{tag_self, tag_same, lsid_self}
 use Rattle.part_laws.specs.Sound.{Opened, Opens, with_opened, decisions, Served, IsSound}
 use Rattle.part_laws.specs.Parts.{LiveAt, AtState, AtSession, IsServing, if_prepared, SamePrepared, SameBut}
-use Rattle.part_laws.proofs.Chains.{tag_self, tag_same}
 use Rattle.part_laws.proofs.Ends.{ends}
-use Rattle.part_laws.proofs.Moving.{lsid_self, entry_here, live_taken, Moves, moved}
+use Rattle.part_laws.proofs.Moving.{live_taken, Moves, moved}
 use Rattle.part_laws.proofs.Opening.{by_tag}
 
 -- the session of a transaction in another state

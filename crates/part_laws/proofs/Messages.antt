@@ -32,13 +32,13 @@ use Rattle.participant.specs.Prepare.{Voting, prepare, prepares_by, prepares_ope
 use Rattle.session_table.specs.Sessions.{commit_time, state_behind}
 use Rattle.participant.specs.Decide.{Deciding, decide, decides_session, decides_own, decides_live, decides_prepared, applies}
 use Rattle.participant.proofs.Cases.{either}
+use Rattle.participant.proofs.Tags.{tag_same}
 use Rattle.part_laws.specs.Each.{Each}
 use Rattle.part_laws.specs.Seen.{wrote_at}
 use Rattle.part_laws.specs.Sound.{Opened, Opens, with_opened, decisions, own_of, Served, StandsAt, OpenRight, HasNone, IsSound}
 use Rattle.part_laws.specs.Steps.{prepared_since}
 use Rattle.part_laws.specs.Parts.{opened_of, LiveAt, PreparedAt, AtState, AtSession, IsServing, SameBut, Holds, HoldsBut}
 use Rattle.part_laws.specs.Kept.{Commits, Prepares, IsDecided}
-use Rattle.part_laws.proofs.Chains.{tag_same}
 use Rattle.part_laws.proofs.Owners.{not_own}
 use Rattle.part_laws.proofs.Ending.{stands-dropped}
 use Rattle.part_laws.proofs.Ends.{prepares, applies as applied, ends}

@@ -1,6 +1,6 @@
 -- A part of which one session changes.
-use Rattle.std.proofs.Common.{◌≡◌, ◌⊎◌, inl, inr, ℕ, Bool, true, false, cond, List, [], ◌∷◌, Option, Some, None, find, option_map, refl, ap, subst, ◌∙◌, sym, if◌then◌else◌}
-use Rattle.txn_types.specs.BySession.{BySession, entry_of, with_entry}
+use Rattle.std.proofs.Common.{◌≡◌, ◌⊎◌, inl, inr, ℕ, Bool, true, false, List, Option, Some, None, refl, ap, subst, ◌∙◌, sym, if◌then◌else◌}
+use Rattle.txn_types.specs.BySession.{BySession, entry_of}
 use Rattle.txn_types.specs.Order.{same_lsid, lsid_cmp}
 use Rattle.txn_types.specs.declared.cause.Cause.TheVariants as cause
 use Rattle.txn_types.specs.declared.names.Tag.{Tag}
@@ -14,28 +14,12 @@ use Rattle.session_table.specs.declared.session.SessionState.{SessionState}
 use Rattle.session_table.specs.declared.session.SessionState.TheVariants as state
 use Rattle.participant.specs.declared.said.Open.{Open}
 use Rattle.participant.specs.Part.{Part, session, open_of, is_open}
+use Rattle.participant.proofs.Tags.{lsid_self, lsid_same}
 use Rattle.part_laws.specs.Each.{Among}
 use Rattle.part_laws.specs.Looked.{looked}
 use Rattle.part_laws.specs.Sound.{Opened, Opens, Served, IsSound}
 use Rattle.part_laws.specs.Parts.{AtState, AtSession, HeldBy, IsKept, IsRefusedBy, IsServing}
-use Rattle.part_laws.proofs.Looking.{looked_is_found, looked-put, looked-taken_out, eq_self, eq_exact}
-
-pub lsid_self : (a : Lsid) → same_lsid a a ≡ true
-lsid_self a = eq_self lsid_cmp lsid_total lsid_exact a
-
-pub lsid_same : (a b : Lsid) → same_lsid a b ≡ true → a ≡ b
-lsid_same a b h = eq_exact lsid_cmp lsid_total lsid_exact a b h
-
--- Look-ups of the session itself.
-
-entry_here_case : {A : Type 0} (lsid : Lsid) (a : A) (entry : Lsid × A) (entries : BySession A) (b : Bool) → same_lsid lsid entry.0 ≡ b → entry_of lsid (with_entry lsid a entries) ≡ Some a
-    → entry_of lsid (cond b ((lsid, a) ∷ entries) (entry ∷ with_entry lsid a entries)) ≡ Some a
-entry_here_case {A} lsid a entry entries true is more = ap (λ b. option_map (λ (entry : Lsid × A). entry.1) (cond b (Some (lsid, a)) (find (λ (entry : Lsid × A). same_lsid lsid entry.0) entries))) (lsid_self lsid)
-entry_here_case {A} lsid a entry entries false is more = ap (λ b. option_map (λ (entry : Lsid × A). entry.1) (cond b (Some entry) (find (λ (entry : Lsid × A). same_lsid lsid entry.0) (with_entry lsid a entries)))) is ∙ more
-
-pub entry_here : {A : Type 0} (lsid : Lsid) (a : A) (entries : BySession A) → entry_of lsid (with_entry lsid a entries) ≡ Some a
-entry_here {A} lsid a [] = ap (λ b. option_map (λ (entry : Lsid × A). entry.1) (cond b (Some (lsid, a)) None)) (lsid_self lsid)
-entry_here lsid a (entry ∷ entries) = entry_here_case lsid a entry entries (same_lsid lsid entry.0) refl (entry_here lsid a entries)
+use Rattle.part_laws.proofs.Looking.{looked_is_found, looked-put, looked-taken_out}
 
 pub live_put : {A : Type 0} (other lsid : Lsid) (a : A) (entries : BySession A) → entry_of other (put lsid_cmp lsid a entries) ≡ (if same_lsid other lsid then Some a else entry_of other entries)
 live_put other lsid a entries =

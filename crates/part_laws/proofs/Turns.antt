@@ -40,18 +40,20 @@ use Rattle.participant.specs.Statement as rules
 use Rattle.participant.specs.Statement.{Turn, statement}
 use Rattle.participant.proofs.Cases.{either}
 use Rattle.participant.proofs.Ends.{entry_elsewhere, entry_without}
+use Rattle.participant.proofs.Moving.{entry_here}
+use Rattle.participant.proofs.Tags.{tag_self, tag_same, tag_flip, lsid_self, lsid_same}
+use Rattle.participant.proofs.Written.{rises_dropped}
 use Rattle.part_laws.specs.Each.{Among}
 use Rattle.part_laws.specs.Seen.{Content, wrote_at}
 use Rattle.part_laws.specs.Sound.{Opened, Opens, with_opened, decisions, own_of, Served, StandsAt, IsSound}
 use Rattle.part_laws.specs.Steps.{Runs, running, serving}
 use Rattle.part_laws.specs.Parts.{opened_of, LiveAt, AtState, HeldBy, IsKept, IsRefusedBy, IsServing, if_prepared, SamePrepared, Holds}
 use Rattle.part_laws.specs.Turned.{IsRefusedAs, IsAnswered, Turned, Comes}
-use Rattle.part_laws.proofs.Chains.{tag_self, tag_same, tag_flip}
 use Rattle.part_laws.proofs.Ends.{ends}
-use Rattle.part_laws.proofs.Stores.{topped_by, versions-with_writes, rises-with_writes, versions-dropped, rises-dropped}
+use Rattle.part_laws.proofs.Stores.{topped_by, versions-with_writes, rises-with_writes, versions-dropped}
 use Rattle.part_laws.proofs.Serving.{does, refuses}
 use Rattle.part_laws.proofs.Opening.{by_tag, here_is}
-use Rattle.part_laws.proofs.Moving.{lsid_self, lsid_same, entry_here, live_put, live_taken, Moves, moved}
+use Rattle.part_laws.proofs.Moving.{live_put, live_taken, Moves, moved}
 use Rattle.part_laws.proofs.Ended.{at_live, aborted_holds, live_same, open_same}
 use Rattle.part_laws.proofs.Elapsed.{session_of_open}
 
@@ -130,7 +132,7 @@ pub end_before : (store : Versions) (opens : Opens) (last : ℕ) (entries : List
     → IsSound (dropped older (with_writes tag store writes)) opens last entries served → IsSound (with_writes tag (dropped older store) writes) opens last entries served
 end_before store opens last entries served tag older writes rises apart sound =
     alike (dropped older (with_writes tag store writes)) (with_writes tag (dropped older store) writes) opens last entries served sound
-    (rises-with_writes tag (dropped older store) writes (rises-dropped older store rises))
+    (rises-with_writes tag (dropped older store) writes (rises_dropped older store rises))
     (λ place. versions-dropped older (with_writes tag store writes) place (rises-with_writes tag store writes rises)
     ∙ ap (without older) (versions-with_writes tag store place writes)
     ∙ topped_without tag older (wrote_at place writes) (versions_of store place) apart
