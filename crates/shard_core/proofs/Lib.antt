@@ -7,3 +7,5 @@ pub mod Homes
 pub mod Restarting
 pub mod Meeting
 pub mod Arriving
+pub mod Bounded
+pub mod Carrying
