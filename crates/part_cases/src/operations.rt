@@ -1,0 +1,153 @@
+//! Operations of cases, on the collection `d.c`.
+ghost use Rattle.std.specs.Prelude.{IfOk, IsSome};
+ghost use Rattle.txn_types.specs.Ids.{id_in};
+
+use crate::asked::Asked;
+use bson_core::{Doc, Name, Text, Value};
+use sqlite_items::Items;
+use std::alloc::{AllocError, Global};
+use txn_types::{
+    Cmp, DeleteItem, Filter, InsertItem, InsertItems, Ns, Op, Update, UpdateItem, UpdateKind,
+    UpdateOp,
+};
+
+fn namespace(alloc: Global) -> Result<Ns, AllocError> {
+    match Ns::of(alloc, "d", "c") {
+        Ok(ns) => Ok(ns),
+        Err(_) => Err(AllocError),
+    }
+}
+
+fn number(word: &str) -> i32 {
+    word.parse::<i32>().unwrap_or(0)
+}
+
+fn size(word: &str) -> u32 {
+    word.parse::<u32>().unwrap_or(0)
+}
+
+/// `{_id: id, a: value}`.
+fn document(alloc: Global, id: i32, value: Value) -> Result<Doc, AllocError>
+    ensures { IfOk result (λ d. IsSome (id_in d)) }
+{
+    let mut fields = Vec::new(alloc);
+    fields.push((Name::from_str(alloc, "_id")?, Value::Int(id)))?;
+    fields.push((Name::from_str(alloc, "a")?, value))?;
+    Ok(Items::from_vec(fields))
+}
+
+/// An insert of one document.
+fn insert(alloc: Global, id: i32, value: Value) -> Result<Op, AllocError> {
+    let doc = document(alloc, id, value)?;
+    let mut docs = InsertItems::new(alloc);
+    docs.push(InsertItem { index: 0, doc })?;
+    Ok(Op::Insert {
+        ns: namespace(alloc)?,
+        docs,
+    })
+}
+
+/// An insert of so many documents, whose ids follow one another, with a text of so many letters each.
+fn texts(alloc: Global, first: i32, count: u32, length: u32) -> Result<Op, AllocError> {
+    let mut docs = InsertItems::new(alloc);
+    for index in 0..count {
+        let id = first.saturating_add(i32::try_from(index).unwrap_or(0));
+        let doc = document(alloc, id, long_text(alloc, length)?)?;
+        docs.push(InsertItem { index, doc })?;
+    }
+    Ok(Op::Insert {
+        ns: namespace(alloc)?,
+        docs,
+    })
+}
+
+/// A hundred letters.
+const HUNDRED: &str =
+    "xxxxxxxxxxxxxxxxxxxxxxxxxxxxxxxxxxxxxxxxxxxxxxxxxxxxxxxxxxxxxxxxxxxxxxxxxxxxxxxxxxxxxxxxxxxxxxxxxxxx";
+
+/// A text of so many letters.
+fn long_text(alloc: Global, length: u32) -> Result<Value, AllocError> {
+    let mut text = String::new(alloc);
+    for _ in 0..length / 100 {
+        text.push_str(HUNDRED)?;
+    }
+    for _ in 0..length % 100 {
+        text.push('x')?;
+    }
+    Ok(Value::Text(Text::new(text)))
+}
+
+/// The document of this id, or all.
+fn filter(alloc: Global, word: &str) -> Result<Filter, AllocError> {
+    if word.is_empty() || word == "all" {
+        return Ok(Filter::And(Items::new(alloc)));
+    }
+    Ok(Filter::Test {
+        name: Name::from_str(alloc, "_id")?,
+        cmp: Cmp::Eq,
+        value: Value::Int(number(word)),
+    })
+}
+
+fn find(alloc: Global, word: &str) -> Result<Op, AllocError> {
+    Ok(Op::Find {
+        ns: namespace(alloc)?,
+        filter: filter(alloc, word)?,
+        down: false,
+        limit: 0,
+    })
+}
+
+/// `$inc` of `a`.
+fn increment(alloc: Global, by: i32) -> Result<Update, AllocError> {
+    let mut ops = Vec::new(alloc);
+    ops.push(UpdateOp {
+        kind: UpdateKind::Inc,
+        name: Name::from_str(alloc, "a")?,
+        value: Value::Int(by),
+    })?;
+    Ok(Update::Ops(Items::from_vec(ops)))
+}
+
+fn update(alloc: Global, word: &str, by: i32) -> Result<Op, AllocError> {
+    let mut items = Vec::new(alloc);
+    items.push(UpdateItem {
+        index: 0,
+        filter: filter(alloc, word)?,
+        update: increment(alloc, by)?,
+        many: true,
+    })?;
+    Ok(Op::Update {
+        ns: namespace(alloc)?,
+        items: Items::from_vec(items),
+    })
+}
+
+fn delete(alloc: Global, word: &str) -> Result<Op, AllocError> {
+    let mut items = Vec::new(alloc);
+    items.push(DeleteItem {
+        index: 0,
+        filter: filter(alloc, word)?,
+        many: true,
+    })?;
+    Ok(Op::Delete {
+        ns: namespace(alloc)?,
+        items: Items::from_vec(items),
+    })
+}
+
+/// The operation of the words from this one on; a find of all, where there is no such operation.
+pub fn operation(alloc: Global, asked: &Asked, index: usize) -> Result<Op, AllocError> {
+    let first = asked.word(index.saturating_add(1));
+    let second = asked.word(index.saturating_add(2));
+    match asked.word(index) {
+        "insert" => insert(alloc, number(first), Value::Int(number(second))),
+        "texts" => {
+            let length = asked.word(index.saturating_add(3));
+            texts(alloc, number(first), size(second), size(length))
+        }
+        "inc" => update(alloc, first, number(second)),
+        "delete" => delete(alloc, first),
+        _ => find(alloc, first),
+    }
+}
