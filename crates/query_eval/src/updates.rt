@@ -1,4 +1,5 @@
-ghost use Rattle.std.specs.Prelude.{◌≡◌, ◌+ℤ◌, ◌++◌, IfOk};
+ghost use Rattle.std.specs.Prelude.{◌≡◌, ◌≤◌, ◌+ℤ◌, ◌++◌, length, IfOk};
+ghost use Rattle.bson_core.specs.Spelling.{spelling};
 ghost use Rattle.txn_types.specs.declared.update.Update.TheVariants.{Ops};
 ghost use Rattle.bson_core.specs.declared.value.Value.TheViews.{out-Value};
 ghost use Rattle.bson_core.specs.Fields.{value_of, with_value};
@@ -191,7 +192,8 @@ fn updated(alloc: Global, update: &Update, doc: &Doc) -> Result<Doc, ApplyErr>
 /// The document that the update makes of this one.
 #[tactic(auto, unfolding(txn_semantics::specs::Updates::apply))]
 pub fn apply(alloc: Global, update: &Update, doc: &Doc) -> Result<Doc, ApplyErr>
-    ensures { Gives result (apply update.now doc.now) }
+    ensures gives { Gives result (apply update.now doc.now) }
+    ensures stored { IfOk result (λ new. length (spelling new) ≤ MOST_STORED) }
 {
     let new = updated(alloc, update, doc)?;
     if size(&new) > MOST_STORED {
