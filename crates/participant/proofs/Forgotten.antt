@@ -41,43 +41,6 @@ pub keys_left : (tag other : Tag) (keys : List Place) (pending : List Pending) �
 keys_left tag other keys [] apart = refl
 keys_left tag other keys (q ∷ pending) apart = left_case tag other keys q pending (same_tag q.tag other) refl apart (λ keys. keys_left tag other keys pending apart)
 
--- A list from which some are taken out, place by place.
-
-module _ {A : Type 0} (test : A → Bool) where
-  -- those before a place, and those behind it that pass
-  abbrev pub sifted : ℕ → List A → List A
-  sifted i xs = take i xs ++ filter test (drop i xs)
-
-  pub sifted_out : (xs : List A) (i : ℕ) (x : A) → slice_get xs i ≡ Some x → test x ≡ false → sifted i (remove xs i) ≡ sifted i xs
-  sifted_out [] i x is fails = cc
-  sifted_out (y ∷ xs) zero x is fails =
-      let one : y ≡ x = cc in
-      ap (λ b. cond b (y ∷ filter test xs) (filter test xs)) (sym (ap test one ∙ fails))
-  sifted_out (y ∷ xs) (suc i) x is fails = ap (λ (rest : List A). y ∷ rest) (sifted_out xs i x is fails)
-
-  pub sifted_in : (xs : List A) (i : ℕ) (x : A) → slice_get xs i ≡ Some x → test x ≡ true → sifted (suc i) xs ≡ sifted i xs
-  sifted_in [] i x is passes = cc
-  sifted_in (y ∷ xs) zero x is passes =
-      let one : y ≡ x = cc in
-      ap (λ b. cond b (y ∷ filter test xs) (filter test xs)) (sym (ap test one ∙ passes))
-  sifted_in (y ∷ xs) (suc i) x is passes = ap (λ (rest : List A). y ∷ rest) (sifted_in xs i x is passes)
-
-  pub sifted_all : (xs : List A) (i : ℕ) → slice_get xs i ≡ None → sifted i xs ≡ xs
-  sifted_all [] zero is = refl
-  sifted_all [] (suc i) is = refl
-  sifted_all (y ∷ xs) zero is = cc
-  sifted_all (y ∷ xs) (suc i) is = ap (λ (rest : List A). y ∷ rest) (sifted_all xs i is)
-
-pub fewer : {A : Type 0} (xs : List A) (i : ℕ) (x : A) → slice_get xs i ≡ Some x → length xs ≡ suc (length (remove xs i))
-fewer [] i x is = cc
-fewer (y ∷ xs) zero x is = refl
-fewer (y ∷ xs) (suc i) x is = ap suc (fewer xs i x is)
-
-pub within : {A : Type 0} (xs : List A) (i : ℕ) (x : A) → slice_get xs i ≡ Some x → i < length xs
-within [] i x is = cc
-within (y ∷ xs) zero x is = omega arith
-within (y ∷ xs) (suc i) x is = omega (arith, within xs i x is)
-
 -- A session that has nothing live.
 
 nothing_case : {A : Type 0} (lsid : Lsid) (entry : Lsid × A) (entries : BySession A) (o : Ordering) → lsid_cmp lsid entry.0 ≡ o

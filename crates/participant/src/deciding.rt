@@ -1,5 +1,4 @@
-ghost use Rattle.std.specs.Prelude.{◌≡◌, [], Some, None, filter, not, IsSome, IsSomeAnd};
-ghost use Rattle.txn_types.specs.Order.{same_tag};
+ghost use Rattle.std.specs.Prelude.{◌≡◌, [], Some, None, IsSome, IsSomeAnd};
 ghost use Rattle.session_table.specs.Sessions.{commit_time, state_behind, prepared_at};
 ghost use Rattle.session_table.specs.declared.session.Session.{Session};
 ghost use Rattle.session_table.specs.declared.session.SessionState.TheVariants as state;
@@ -11,7 +10,7 @@ use crate::part::Participant;
 use journal_rec::Decided;
 use session_table::{Session, SessionState, is_same_tag};
 use txn_types::{Cause, Decide, Decision, Tag, Ts};
-use version_store::{Key, Pending, Pendings};
+use version_store::{Key, Pending, forget};
 
 /// The time of a commit.
 fn commit_time(decision: &Decision) -> Option<Ts>
@@ -50,21 +49,6 @@ fn newest_keys<'a>(tag: &Tag, pendings: &'a [Pending]) -> &'a [Key]
         }
     }
     keys
-}
-
-/// Takes out the prepared transactions of the tag.
-fn forget(pendings: &mut Pendings, tag: &Tag)
-    ensures { pendings.new ≡ filter (λ other. not (same_tag other.tag tag.now)) pendings.old }
-{
-    let mut place = 0;
-    while let Some(pending) = pendings.get(place) {
-        if is_same_tag(&pending.tag, tag) {
-            drop(pendings.remove(place));
-        } else {
-            let _count = pendings.len();
-            place += 1;
-        }
-    }
 }
 
 /// The record of the decision.

@@ -1,15 +1,16 @@
 ghost use Rattle.std.specs.Prelude.{◌≡◌, [], IfOk, IsSomeAnd};
 ghost use Rattle.std.specs.Option.{option_copied};
 ghost use Rattle.session_table.specs.declared.session.SessionState.TheVariants.{Live};
-ghost use Rattle.participant.specs.Part.{session, end_live};
+ghost use Rattle.participant.specs.Part.{session, open_of, end_live};
 ghost use Rattle.participant.specs.Stands.{Stands};
+ghost use Rattle.participant.specs.Statement.{own_of};
 
 use crate::lives::Lives;
 use session_table::{Session, SessionState, Sessions};
 use sqlite_items::Items;
 use std::alloc::{AllocError, Global};
 use std::marker::Model;
-use txn_types::{Cause, Lsid, Ts};
+use txn_types::{Cause, Lsid, Ts, Write};
 use version_store::{Pendings, Store, copy_pendings};
 
 /// A shard's part in transactions: its sessions, what its live transactions have, its prepared ones, and the versions of
@@ -94,6 +95,30 @@ impl Participant {
             pending: copy_pendings(self.alloc, &self.pending)?,
             store: self.store.copy()?,
         })
+    }
+
+    /// The shard's number.
+    pub fn shard(&self) -> u16
+        ensures { result ≡ self.now.shard }
+    {
+        self.shard
+    }
+
+    /// How often the shard's journal was started.
+    pub fn boot(&self) -> u32
+        ensures { result ≡ self.now.boot }
+    {
+        self.boot
+    }
+
+    /// What the session's live transaction has written so far, in its order; nothing, where none is live.
+    pub fn writes_of<'a>(&'a self, lsid: &Lsid) -> &'a [Write]
+        ensures { result.now ≡ own_of (open_of self.now lsid.now) }
+    {
+        match self.live.get(lsid) {
+            Some(live) => live.open().writes.as_slice(),
+            None => &[],
+        }
     }
 
     /// The session's newest transaction here.

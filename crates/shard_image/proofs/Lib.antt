@@ -10,5 +10,4 @@ pub mod Counting
 pub mod Steps
 pub mod Decisions
 pub mod Asked
-pub mod Removing
 pub mod Behind

@@ -1,6 +1,5 @@
 //! What a record changes.
-ghost use Rattle.std.specs.Prelude.{◌≡◌, ◌+◌, ◌-◌, ◌^◌, ◌<◌, [], ◌∷◌, ◌++◌, map, filter, not, None, Some, true, IfOk, IfErr, IsSome, IfSome, slice_get, length, Err, OnOk, OnErr, IsSomeAnd};
-ghost use Rattle.txn_types.specs.Order.{same_tag, tag_cmp};
+ghost use Rattle.std.specs.Prelude.{◌≡◌, ◌+◌, ◌-◌, ◌^◌, ◌<◌, [], ◌∷◌, ◌++◌, map, None, Some, true, IfOk, IfErr, Err, OnOk, OnErr, IsSomeAnd};
 ghost use Rattle.txn_types.specs.Writes.{AllKept};
 ghost use Rattle.txn_semantics.specs.Writes.{place_of};
 ghost use Rattle.session_table.specs.Sessions.{session_of, with_session, state_behind, commit_time};
@@ -17,11 +16,11 @@ use crate::image::{Image, ImageErr, Place};
 use crate::order::{can_follow, find_pending};
 use coordinator::Coord;
 use journal_rec::{Decided, Rec};
-use session_table::{Session, SessionState, Sessions, is_same_tag};
+use session_table::{Session, SessionState, Sessions};
 use sqlite_items::Items;
 use std::alloc::{AllocError, Global};
 use txn_types::{Cause, Decision, Id, Lsid, Ns, Parts, Tag, Ts, Write, Writes};
-use version_store::{Key, Keys, Pending, Pendings, Store, copy_keys};
+use version_store::{Key, Keys, Pending, Pendings, Store, copy_keys, forget};
 
 /// The namespace and the id of a write.
 fn parts(write: &Write) -> (&Ns, &Id)
@@ -118,21 +117,6 @@ fn decide_pending(store: &mut Store, pending: &[Pending], tag: &Tag, at: Option<
 {
     if let Some(q) = find_pending(pending, tag) {
         store.decide(*tag, q.keys.as_slice(), at);
-    }
-}
-
-/// Takes out the prepared transactions of a tag.
-fn take_out(pendings: &mut Pendings, tag: &Tag)
-    ensures { pendings.new ≡ filter (λ other. not (same_tag other.tag tag.now)) pendings.old }
-{
-    let mut place = 0;
-    while let Some(pending) = pendings.get(place) {
-        if is_same_tag(&pending.tag, tag) {
-            drop(pendings.remove(place));
-        } else {
-            let _count = pendings.len();
-            place += 1;
-        }
     }
 }
 
@@ -282,7 +266,7 @@ impl Image {
             &d.tag,
             time_of(&d.decision),
         );
-        take_out(&mut self.pending, &d.tag);
+        forget(&mut self.pending, &d.tag);
         self.sessions.replace(&d.lsid, session_behind(d));
         self.place.count += 1;
     }

@@ -1,5 +1,6 @@
 pub mod Chained
 pub mod Keyed
+pub mod Removing
 pub mod Nested
 pub mod Histories
 pub mod Ids

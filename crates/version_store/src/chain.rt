@@ -14,7 +14,7 @@ use std::marker::Model;
 use txn_types::{By, Tag, Ts};
 
 /// Whether the tags are the same.
-fn is_same(a: &Tag, b: &Tag) -> bool
+pub fn is_same(a: &Tag, b: &Tag) -> bool
     ensures { result ≡ same_tag a.now b.now }
 {
     let later = a.boot.cmp(&b.boot).then(a.serial.cmp(&b.serial));
