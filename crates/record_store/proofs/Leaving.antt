@@ -1,8 +1,11 @@
 -- What a crash leaves of a log on a disk.
-use Rattle.std.proofs.Common.{◌≡◌, ◌<◌, ◌^◌, ℕ, Bool, true, false, List, [], ◌∷◌, ◌++◌, length, map, Option, Some, None, is_some, refl, sym, ap, ◌∙◌, append-nil}
+use Rattle.std.proofs.Common.{◌≡◌, ◌<◌, ◌≤◌, ◌^◌, ℕ, Bool, true, false, List, [], length, Option, Some, None, is_some, refl, sym, ◌∙◌, append-nil}
+use Rattle.outside_core.specs.Crash.{LeavesOnly}
+use Rattle.outside_core.specs.declared.disk.Disk.{Ghosts}
+use Rattle.outside_core.proofs.Moments.{then_goes}
 use Rattle.journal_core.specs.Left.{Leaves, IsAtRest}
+use Rattle.journal_core.specs.Looks.{Looks}
 use Rattle.journal_core.proofs.Appends.{begins_leaves}
-use Rattle.journal_rec.specs.declared.record.Rec.{Rec}
 
 pub none_of : {A : Type 0} (o : Option A) → is_some o ≡ false → o ≡ None
 none_of None h = refl
@@ -13,6 +16,9 @@ pub rest_leaves : (frames : List (List ℕ)) (hand seen : List ℕ) (may_leave :
 rest_leaves frames hand seen may_leave count end rests fits c now =
     begins_leaves frames hand rests.short fits seen c rests.file ([], rests.durable c now ∙ sym (append-nil seen))
 
-pub map_push : {A B : Type 0} (f : A → B) (xs : List A) (x : A) → map f (xs ++ x ∷ []) ≡ map f xs ++ f x ∷ []
-map_push f [] x = refl
-map_push f (y ∷ xs) x = ap (λ ys. f y ∷ ys) (map_push f xs x)
+module _ {D : Type 0} (d : Ghosts D) where
+  -- calls that only look, behind a run
+  pub looked : (a b c : D) (P : List ℕ → Type 0) → LeavesOnly d.moment d.left_since a b P → ((t : ℕ) (f : List ℕ) → t ≤ d.moment b → d.may_leave b f → d.left_since b t f) → Looks d.seen d.may_leave d.moment d.left_since b c
+      → LeavesOnly d.moment d.left_since a c P
+  looked a b c P run law looks =
+      then_goes d a b c P (d.may_leave b) P run looks.moments (λ f here. here) (λ f now. run.each f (law (d.moment a) f run.later now))

@@ -1,4 +1,5 @@
+pub mod Counting
 pub mod Fronts
-pub mod Leaving
 pub mod Gathered
+pub mod Leaving
 pub mod Sizes

@@ -33,6 +33,12 @@ pub record FoundIn (told : Type 0) (file : List ℕ) (recs : List Rec) : Type 0 
   pub file_has : told → payloads_of file ≡ Ok payloads
   pub are : records_of payloads ≡ Ok recs
 
+-- these records were read; where the disk tells, from these payloads
+pub record ReadFrom (told : Type 0) (frames : List (List ℕ)) (recs : List Rec) : Type 0 where
+  pub payloads : List (List ℕ)
+  pub same : told → payloads ≡ frames
+  pub are : records_of payloads ≡ Ok recs
+
 -- so many whole frames stand in front of the byte at fault; none, where it is in the header
 abbrev pub StandBefore : List ℕ → ℕ → ℕ → Type 0
 StandBefore file at index = ((at < 16) × (index ≡ 0)) ⊎ Walked file index at
@@ -55,6 +61,12 @@ abbrev pub RefusesPayloads : List (List ℕ) → NodeErr → Type 0
 RefusesPayloads payloads DiskFault = ⊥
 RefusesPayloads payloads (BadJournal index) = records_of payloads ≡ Err index
 RefusesPayloads payloads Memory = Unit {0}
+
+-- why the payloads of a journal aren't read
+abbrev pub RefusesFrames : Type 0 → List (List ℕ) → NodeErr → Type 0
+RefusesFrames told frames DiskFault = Unit {0}
+RefusesFrames told frames (BadJournal index) = told → records_of frames ≡ Err index
+RefusesFrames told frames Memory = Unit {0}
 
 -- why a payload isn't read as a record
 abbrev pub RefusesPayload : ℕ → List ℕ → NodeErr → Type 0

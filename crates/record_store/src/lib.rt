@@ -3,6 +3,7 @@
 
 mod disk_log;
 mod error;
+mod frames;
 mod list_log;
 mod log;
 mod payload;
