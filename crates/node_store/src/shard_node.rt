@@ -3,6 +3,7 @@ ghost use Rattle.outcomes.specs.Causes.{Rose};
 ghost use Rattle.shard_image.specs.Sound.{AreWritten};
 ghost use Rattle.shard_core.specs.NodeStep.{ShardTakes, started};
 ghost use Rattle.shard_core.specs.Steps.{answer_by};
+ghost use Rattle.record_store.specs.Logged.{listed, LeftOf};
 ghost use Rattle.node_store.specs.Starts.{RefusesRecords, RefusesStart, StartsFrom};
 
 use crate::appending::{append_all, payload_of};
@@ -67,6 +68,13 @@ fn answer_of(out: Outbox, held: Option<Held>) -> NodeAnswer
     }
 }
 
+/// Stops the shard whose log has failed.
+fn stop<L: RecordLog>(core: &mut Shard, log: &L)
+    ensures { core.new ≡ record core.old { stopped = Some (L.fault_count log.now) } }
+{
+    core.stop(log.faults());
+}
+
 impl<L: RecordLog> ShardNode<L> {
     /// Starts the shard of this number from the records of a log, to which the record of the next boot is appended. A
     /// refusal gives the log back.
@@ -112,14 +120,16 @@ impl<L: RecordLog> Machine for ShardNode<L> {
         match self.core.step(event, &mut out) {
             Err(StepErr::Memory) => NodeAnswer::Memory,
             Err(StepErr::Stopped) => NodeAnswer::Stopped,
-            Ok(Step {
-                ceiling,
-                then,
-                held,
-            }) => match append_all(&mut self.log, &mut payload, ceiling, then) {
+            Ok(
+                Step {
+                    ceiling,
+                    then,
+                    held,
+                },
+            ) => match append_all(&mut self.log, &mut payload, ceiling, then) {
                 Ok(()) => answer_of(out, held),
                 Err(DiskErr::Failed) => {
-                    self.core.stop(self.log.faults());
+                    stop(&mut self.core, &self.log);
                     self.settled = Some(settled);
                     NodeAnswer::DiskFault
                 }
@@ -153,11 +163,7 @@ impl<L: RecordLog> Journalled for ShardNode<L> {
 impl<D: Disk> ShardNode<DiskLog<D>> {
     /// Starts the shard of this number from the journal on a disk. A refusal gives the disk back; what the start has
     /// appended by then stays.
-    pub fn start(
-        alloc: Global,
-        shard: u16,
-        disk: D,
-    ) -> Result<ShardNode<DiskLog<D>>, (NodeErr, D)>
+    pub fn start(alloc: Global, shard: u16, disk: D) -> Result<ShardNode<DiskLog<D>>, (NodeErr, D)>
         ensures starts { IfOk result (λ n. StartsFrom shard (IsTrue (D.tells disk)) (D.seen disk) n.node) }
         ensures refused { IfErr result (λ e. RefusesStart (IsTrue (D.tells disk)) (D.seen disk) e.0) }
         ensures later { IfOk result (λ n. D.fault_count disk ≤ n.node.faults) }
@@ -173,9 +179,11 @@ impl<D: Disk> ShardNode<DiskLog<D>> {
         }
     }
 
-    /// The disk, to start again.
+    /// The disk, to start again. A crash leaves the node's records, or these and the one in hand.
     pub fn into_disk(self) -> D
-        ensures { result ≡ self.log.journal.disk }
+        ensures disk { result ≡ self.log.journal.disk }
+        ensures hand { self.node.hand ≡ listed self.log.hand }
+        ensures left { IsTrue (D.tells result) → LeftOf (D.may_leave result) self.node.records self.log.hand }
     {
         let ShardNode { log, .. } = self;
         log.into_disk()

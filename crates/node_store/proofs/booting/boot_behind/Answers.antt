@@ -21,7 +21,7 @@ returns-clause-boots g c =
     let boot_is : c.args.image.boot ≡ (image_of old).boot = ap (λ (i : Image). i.boot) image_is in
     let view : c.image.inside.boot ≡ c.args.image.boot = ap (λ (i : Image). i.boot) c.image.view_is in
     let records : new ≡ old ++ boot_behind (image_of old) ∷ [] =
-        c.in_ok-append_boot.ensures.ok.0 ∙ ap (λ (b : ℕ). old ++ rec.Boot (b + 1) ∷ []) (view ∙ boot_is) in
+    c.in_ok-append_boot.ensures.ok.0 ∙ ap (λ (b : ℕ). old ++ rec.Boot (b + 1) ∷ []) (view ∙ boot_is) in
     record {
       follow = c.requires.follow;
       left = omega (arith, boot_is, view, c.if-image-ge-LAST_BOOT.false);
