@@ -1,7 +1,7 @@
 ghost use Rattle.std.specs.Prelude.{◌≡◌, ◌≤◌, [], false, Some, IsTrue, IfOk, IfErr};
 ghost use Rattle.outcomes.specs.Causes.{Rose};
 ghost use Rattle.shard_image.specs.Sound.{AreWritten};
-ghost use Rattle.shard_core.specs.NodeStep.{ShardTakes, started};
+ghost use Rattle.shard_core.specs.NodeStep.{ShardTakes, resolved_at, started};
 ghost use Rattle.shard_core.specs.Steps.{answer_by};
 ghost use Rattle.record_store.specs.Logged.{listed, LeftOf};
 ghost use Rattle.node_store.specs.Starts.{RefusesRecords, RefusesStart, StartsFrom};
@@ -97,6 +97,17 @@ impl<L: RecordLog> ShardNode<L> {
                 settled: None,
             }),
             Err(error) => Err((error, log)),
+        }
+    }
+
+    /// What is resolved at the shard, below which no commit comes any more; behind a step whose append failed, what was
+    /// resolved before it.
+    pub fn resolved(&self) -> Ts
+        ensures { result ≡ resolved_at self.now.node }
+    {
+        match self.settled {
+            Some(at) => at,
+            None => self.core.resolved(),
         }
     }
 }
