@@ -1,5 +1,5 @@
 -- What a live transaction has written stays within its volume.
-use Rattle.std.proofs.Common.{◌≡◌, ◌≤◌, Bool, true, false, List, [], ◌∷◌, find, Option, Some, None, option_map, if◌then◌else◌, refl, arith}
+use Rattle.std.proofs.Common.{◌≤◌, Bool, true, false, List, [], ◌∷◌, find, Option, Some, option_map, if◌then◌else◌, arith}
 use Rattle.txn_types.specs.BySession.{entry_of}
 use Rattle.txn_types.specs.Order.{same_lsid}
 use Rattle.txn_types.specs.declared.node.Lsid.{Lsid}

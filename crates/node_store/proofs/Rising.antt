@@ -1,14 +1,13 @@
 -- The writes of a record that was read rise, since its bytes have them so.
-use Rattle.std.proofs.Common.{◌≡◌, ℕ, zero, suc, ◌+◌, ◌-◌, Bool, true, false, if◌then◌else◌, List, [], ◌∷◌, ◌++◌, map, length, Option, Some, None, Result, Ok, Err, refl, sym, ap, subst, ◌∙◌, arith}
+use Rattle.std.proofs.Common.{◌≡◌, ℕ, zero, suc, ◌+◌, ◌-◌, Bool, true, false, if◌then◌else◌, List, [], ◌∷◌, ◌++◌, map, length, Option, Result, Ok, Err, refl, sym, ap, subst, ◌∙◌, arith}
 use Rattle.std.specs.Prelude.{slice_get}
-use Rattle.std.specs.List.{AllByRecursion}
 use Rattle.std.specs.Bool.{◌==◌}
 use Rattle.std.specs.Int.{w16, w32, w64}
 use Rattle.std.specs.Ordering.{is_lt}
 use Rattle.std.specs.declared.cmp.Ordering.{Ordering}
 use Rattle.std.specs.declared.cmp.Ordering.TheVariants.{Less, Equal, Greater}
 use Rattle.txn_types.specs.declared.write.Write.{Write}
-use Rattle.txn_semantics.specs.Keyed.{Rises, AllAbove}
+use Rattle.txn_semantics.specs.Keyed.{Rises}
 use Rattle.txn_semantics.specs.Writes.{place_of, place_cmp, placed}
 use Rattle.txn_semantics.proofs.Laying.{above_trans}
 use Rattle.txn_semantics.proofs.Places.{place_total, place_exact}

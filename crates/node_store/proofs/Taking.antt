@@ -1,23 +1,22 @@
 -- What a node's step comes to.
-use Rattle.std.proofs.Common.{◌≡◌, ◌≤◌, inl, inr, ℕ, Bool, false, List, [], ◌∷◌, ◌++◌, Option, Some, None, IfSome, refl, sym, ap, subst, ◌∙◌, arith, append-nil}
+use Rattle.std.proofs.Common.{◌≡◌, inl, ℕ, Bool, false, List, Option, Some, None, IfSome, refl, sym, ap, subst, ◌∙◌, arith, append-nil}
 use Rattle.txn_types.specs.declared.event.NodeAnswer.{NodeAnswer}
 use Rattle.txn_types.specs.declared.event.NodeAnswer.TheVariants as answer
 use Rattle.txn_types.specs.declared.event.NodeEvent.{NodeEvent}
 use Rattle.journal_rec.specs.declared.record.Rec.{Rec}
 use Rattle.shard_core.specs.Carrying.{IsBounded, Carries, IsCarried, carried}
 use Rattle.shard_core.specs.Core.{Room, Ample, Scarce, Short, CoreStep, core_step, step_if, stays}
-use Rattle.shard_core.specs.NodeStep.{NodeState, Appended, Failed, ShardTakes, appends_of, joined}
-use Rattle.shard_core.specs.State.{ShardState, resolved_of}
+use Rattle.shard_core.specs.NodeStep.{NodeState, Appended, ShardTakes}
+use Rattle.shard_core.specs.State.{ShardState}
 use Rattle.shard_core.specs.Steps.{Steps}
 use Rattle.shard_core.proofs.Carrying.{step_carries}
-use Rattle.node_store.specs.Appends.{IsCut, appends}
 
 -- with no room nothing changes
 short_case : (s : ShardState) (e : NodeEvent) (o : Option ℕ) → step_if Short s e o ≡ stays s answer.Memory
 short_case s e None = refl
 short_case s e (Some faults) = refl
 
-pub short_step : (s : ShardState) (e : NodeEvent) → core_step Short s e ≡ stays s answer.Memory
+short_step : (s : ShardState) (e : NodeEvent) → core_step Short s e ≡ stays s answer.Memory
 unfolding core_step
 short_step s e = short_case s e s.stopped
 
@@ -71,15 +70,11 @@ module _ (s : ShardState) (e : NodeEvent) (made : CoreStep) (step : Steps s e ma
   carries_payload payload bounded is = subst (λ (l : List ℕ). Carries l made.rec) (sym is) (made_carries bounded).carries
 
 -- all appends were made
-pub takes_all : (old new : NodeState) (e : NodeEvent) (a : NodeAnswer) (made : CoreStep) → Steps old.core e made → Appended old made a new → ShardTakes old e a new
+takes_all : (old new : NodeState) (e : NodeEvent) (a : NodeAnswer) (made : CoreStep) → Steps old.core e made → Appended old made a new → ShardTakes old e a new
 takes_all old new e a made step h = (step.0, inl (subst (λ (o : CoreStep). Appended old o a new) (sym step.1) h))
 
--- one failed
-pub takes_cut : (old new : NodeState) (e : NodeEvent) (a : NodeAnswer) (made : CoreStep) → Steps old.core e made → Failed old made a new → ShardTakes old e a new
-takes_cut old new e a made step h = (step.0, inr (subst (λ (o : CoreStep). Failed old o a new) (sym step.1) h))
-
 -- nothing has changed
-pub takes_none : (old new : NodeState) (e : NodeEvent) (a : NodeAnswer) → Steps old.core e (stays old.core a) → new ≡ old → ShardTakes old e a new
+takes_none : (old new : NodeState) (e : NodeEvent) (a : NodeAnswer) → Steps old.core e (stays old.core a) → new ≡ old → ShardTakes old e a new
 takes_none old new e a step same =
     takes_all old new e a (stays old.core a) step (
     subst (λ (n : NodeState). Appended old (stays old.core a) a n) (sym same) (record { told = refl; later = omega arith; core = refl; records = sym (append-nil old.records); hand = refl; settled = refl })

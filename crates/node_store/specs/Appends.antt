@@ -1,5 +1,5 @@
 -- The appends of a step.
-use Rattle.std.specs.Prelude.{◌≡◌, ℕ, List, [], ◌∷◌, ◌++◌, Option}
+use Rattle.std.specs.Prelude.{◌≡◌, ℕ, List, ◌∷◌, ◌++◌, Option}
 use Rattle.journal_rec.specs.declared.record.Rec.{Rec}
 use Rattle.shard_core.specs.NodeStep.{ceiling_append, record_append, joined}
 

@@ -1,5 +1,5 @@
 -- The start of a shard's node from the records of its log.
-use Rattle.std.specs.Prelude.{◌≡◌, ◌⊎◌, ◌<◌, ◌≤◌, ◌+◌, ℕ, Bool, false, List, [], ◌∷◌, ◌++◌, length, Option, Some, None}
+use Rattle.std.specs.Prelude.{◌≡◌, ◌⊎◌, ◌<◌, ◌≤◌, ℕ, List, [], ◌∷◌, ◌++◌, length, Some, None}
 use Rattle.journal_rec.specs.Follows.{first_refused}
 use Rattle.journal_rec.specs.declared.record.Rec.{Rec}
 use Rattle.shard_image.specs.Image.{Image, image_of}

@@ -1,4 +1,4 @@
-use Rattle.std.proofs.Common.{◌≡◌, inr, ◌++◌, [], ◌∷◌, List, ℕ, Option, true, false, Some, None, is_err, refl, sym, ap, subst, ◌∙◌, arith}
+use Rattle.std.proofs.Common.{◌≡◌, inr, ◌++◌, [], ◌∷◌, List, ℕ, Option, true, false, None, is_err, sym, ap, subst, ◌∙◌, arith}
 use Rattle.std.specs.Prelude.{IsTrue}
 use Rattle.outside_core.proofs.Moments.{still}
 use Rattle.journal_core.specs.Left.{Leaves}
