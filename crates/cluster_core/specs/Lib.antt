@@ -1,0 +1,15 @@
+pub mod Nodes
+pub mod Naming
+pub mod Trace
+pub mod Routers
+pub mod Answering
+pub mod Replying
+pub mod Ledger
+pub mod Telling
+pub mod Deciding
+pub mod Causes
+pub mod Placed
+pub mod Causal
+pub mod Resolved
+pub mod Parts
+pub mod Right

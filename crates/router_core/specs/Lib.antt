@@ -1,0 +1,5 @@
+pub mod Requests
+pub mod News
+pub mod Safe
+pub mod Step
+pub mod Turning

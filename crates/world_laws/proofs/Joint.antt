@@ -1,0 +1,101 @@
+-- What stands is kept by each event, and holds at a start.
+use Rattle.std.proofs.Common.{◌≡◌, ℕ, List, [], ◌∷◌, ◌++◌, Some, All, ap, sym, subst, ◌∙◌, arith}
+use Rattle.std.specs.Prelude.{slice_get, Contains}
+use Rattle.std.proofs.lemmas.List.Elements.{All-nil, All-cons, All-head, All-tail, All-weaker}
+use Rattle.txn_types.specs.declared.node.Lsid.{Lsid}
+use Rattle.journal_rec.specs.declared.record.Rec.{Rec}
+use Rattle.journal_rec.specs.declared.record.Rec.TheVariants as rec
+use Rattle.chunk_map.specs.Map.{Map}
+use Rattle.router_state.specs.declared.state.Session.{Session}
+use Rattle.router_state.specs.State.{RouterState}
+use Rattle.shard_image.specs.Image.{image_of}
+use Rattle.shard_core.specs.NodeStep.{NodeState, started, boot_behind}
+use Rattle.txn_model.specs.declared.ran.Ran.{Ran}
+use Rattle.cluster_core.specs.Naming.{Named}
+use Rattle.cluster_core.specs.Nodes.{Nodes}
+use Rattle.cluster_core.specs.Trace.{Happens, IsTrace, IsFresh}
+use Rattle.cluster_core.specs.Parts.{last_ceiling, names_of, AnswersBehind}
+use Rattle.txn_types.specs.declared.message.Envelope.{Envelope}
+use Rattle.world_laws.specs.Behind.{RecBehind, MsgBehind}
+use Rattle.world_laws.specs.Asking.{DoingAsks, RouterAsks}
+use Rattle.world_laws.specs.ReadTimes.{NodeReads}
+use Rattle.world_laws.specs.Clocks.{ClockStands}
+use Rattle.world_laws.specs.Tags.{BeginsNamed, PlansNamed}
+use Rattle.world_laws.specs.Joint.{Stands, NoName, DiskStands, DisksStand}
+use Rattle.world_laws.proofs.Clocks.{clocks_step, starts_clock, started_is, ceiling_on}
+use Rattle.world_laws.proofs.ReadTimes.{reads_step, starts_reads}
+use Rattle.world_laws.proofs.RouterSteps.{routers_step, routers_sent}
+use Rattle.world_laws.proofs.Tags.{plans_step, starts_named}
+
+pub stands_step : (old : Nodes) (ran : Ran) (new : Nodes) → Happens old ran new → Stands old → Stands new
+stands_step old ran new h s = record {
+  clocks = clocks_step old ran new h s.clocks;
+  asks = routers_step old ran new h s.asks;
+  reads = reads_step old ran new h (routers_sent old ran new h s.asks) s.clocks s.reads;
+  plans = plans_step old ran new h s.plans;
+}
+
+pub stands_run : (old : Nodes) (run : List Ran) (trace : List Nodes) (new : Nodes) → IsTrace old run trace new → Stands old → Stands new
+stands_run old [] [] new h s = subst Stands (sym h) s
+stands_run old [] (nodes ∷ trace) new h s = absurd h
+stands_run old (ran ∷ run) [] new h s = absurd h
+stands_run old (ran ∷ run) (nodes ∷ trace) new h s = stands_run h.1.0 run trace new h.1.2 (stands_step old ran h.1.0 h.1.1 s)
+
+-- At a start.
+
+all_front : {A : Type 0} (P : A → Type 0) (xs ys : List A) → All P (xs ++ ys) → All P xs
+all_front P [] ys h = All-nil P
+all_front P (x ∷ xs) ys h = All-cons P x xs (All-head P x (xs ++ ys) h) (all_front P xs ys (All-tail P x (xs ++ ys) h))
+
+-- of the records of a node that started, those that it started from
+front_of : (P : Rec → Type 0) (number : ℕ) (recs : List Rec) (faults : ℕ) (n : NodeState) → started number recs faults ≡ Some n → All P n.records → All P recs
+front_of P number recs faults n is h = all_front P recs (boot_behind (image_of recs) ∷ []) (subst (λ (x : NodeState). All P x.records) (started_is number recs faults n is) h)
+
+same_ceiling : (number : ℕ) (recs : List Rec) (faults : ℕ) (n : NodeState) → started number recs faults ≡ Some n → last_ceiling n.records ≡ last_ceiling recs
+same_ceiling number recs faults n is = ap (λ (x : NodeState). last_ceiling x.records) (started_is number recs faults n is) ∙ ceiling_on recs (boot_behind (image_of recs) ∷ [])
+
+begins_more : (P : Named → Type 0) (r : Rec) → BeginsNamed NoName r → BeginsNamed P r
+begins_more P (rec.Boot boot) h = tt
+begins_more P (rec.Ceiling bound) h = tt
+begins_more P (rec.Commit tag lsid number read_at at writes) h = tt
+begins_more P (rec.Prepared tag lsid number boot read_at at coordinator writes) h = tt
+begins_more P (rec.Decided d) h = tt
+begins_more P (rec.CoordStart tag lsid number parts) h = absurd h
+begins_more P (rec.CoordDecision tag d) h = tt
+begins_more P (rec.CoordEnd tag) h = tt
+begins_more P (rec.Floor floor) h = tt
+
+starts_all : (P : Named → Type 0) (number : ℕ) (recs : List Rec) (faults : ℕ) (n : NodeState) → started number recs faults ≡ Some n → DiskStands n.records → ClockStands n × NodeReads number n × PlansNamed P n
+starts_all P number recs faults n is d = (
+  starts_clock number recs faults n is d.ceiling,
+  (starts_reads number recs faults n is (front_of (RecBehind (last_ceiling recs)) number recs faults n is (subst (λ (k : ℕ). All (RecBehind k) n.records) (same_ceiling number recs faults n is) d.times))).0,
+  starts_named P number recs faults n is (All-weaker (BeginsNamed NoName) (BeginsNamed P) (begins_more P) recs (front_of (BeginsNamed NoName) number recs faults n is d.begins)),
+)
+
+router_fresh : (chunks : Map) (nodes : Nodes) → IsFresh chunks nodes → (number : ℕ) (r : RouterState) → slice_get nodes.routers number ≡ Some r → RouterAsks r
+router_fresh chunks nodes h number r e = subst RouterAsks (sym (h.routers number r e).1) (All-nil (λ (entry : Lsid × Session). DoingAsks entry.1.doing))
+
+pub stands_fresh : (chunks : Map) (nodes : Nodes) → IsFresh chunks nodes → DisksStand nodes → Stands nodes
+stands_fresh chunks nodes h d =
+    let at = λ (number : ℕ) (n : NodeState) (e : slice_get nodes.shards number ≡ Some n). let s = h.shards number n e in starts_all (Contains (names_of nodes)) number s.0 s.1 n s.2 (d number n e) in
+    record {
+      clocks = λ number n e. (at number n e).0;
+      asks = router_fresh chunks nodes h;
+      reads = record {
+        shards = λ number n e. (at number n e).1;
+        times = subst (All (λ (e : Envelope). MsgBehind e.time e.msg)) (sym h.sent) (All-nil (λ (e : Envelope). MsgBehind e.time e.msg));
+        answers = subst (All (AnswersBehind nodes)) (sym h.sent) (All-nil (AnswersBehind nodes));
+      };
+      plans = λ number n e. (at number n e).2;
+    }
+
+-- a new disk has one record, of its first boot
+pub new_disk : (number : ℕ) (faults : ℕ) (n : NodeState) → started number [] faults ≡ Some n → DiskStands n.records
+unfolding image_of
+new_disk number faults n is =
+    let one : DiskStands (rec.Boot 1 ∷ []) = record {
+      ceiling = omega arith;
+      times = All-cons (RecBehind 0) (rec.Boot 1) [] tt (All-nil (RecBehind 0));
+      begins = All-cons (BeginsNamed NoName) (rec.Boot 1) [] tt (All-nil (BeginsNamed NoName));
+    } in
+    subst (λ (x : NodeState). DiskStands x.records) (sym (started_is number [] faults n is)) one

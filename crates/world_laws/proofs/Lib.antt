@@ -1,0 +1,16 @@
+mod Lists
+mod Numbers
+mod Naming
+mod Effects
+mod Steps
+mod Ceilings
+mod Clocks
+mod Records
+mod Tags
+mod PartTimes
+mod RuledTimes
+mod StepTimes
+mod ReadTimes
+mod Asking
+mod RouterSteps
+mod Joint

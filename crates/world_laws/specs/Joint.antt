@@ -1,0 +1,32 @@
+-- What holds of a cluster in each state that it comes to, as far as it is shown: of clocks, of the times that shards answer and
+-- record, of what routers send, and of what shards coordinate. Each event keeps it as a whole.
+use Rattle.std.specs.Prelude.{◌<◌, ◌^◌, List, All}
+use Rattle.journal_rec.specs.declared.record.Rec.{Rec}
+use Rattle.cluster_core.specs.Naming.{Named}
+use Rattle.cluster_core.specs.Nodes.{Nodes}
+use Rattle.cluster_core.specs.Parts.{last_ceiling}
+use Rattle.world_laws.specs.Clocks.{EachShard, ClocksStand}
+use Rattle.world_laws.specs.Behind.{RecBehind}
+use Rattle.world_laws.specs.ReadTimes.{ReadsStand}
+use Rattle.world_laws.specs.Asking.{AllRoutersAsk}
+use Rattle.world_laws.specs.Tags.{BeginsNamed, AllPlansNamed}
+
+pub record Stands (nodes : Nodes) : Type 0 where
+  pub clocks : ClocksStand nodes
+  pub asks : AllRoutersAsk nodes
+  pub reads : ReadsStand nodes
+  pub plans : AllPlansNamed nodes
+
+-- What may be on the disks that a cluster starts from: the last ceiling is a time, no record has one above it, and no commit
+-- of several shards was begun.
+
+abbrev pub NoName : Named → Type 0
+NoName named = ⊥
+
+pub record DiskStands (recs : List Rec) : Type 0 where
+  pub ceiling : last_ceiling recs < 2 ^ 64
+  pub times : All (RecBehind (last_ceiling recs)) recs
+  pub begins : All (BeginsNamed NoName) recs
+
+abbrev pub DisksStand : Nodes → Type 0
+DisksStand nodes = EachShard nodes (λ number n. DiskStands n.records)

@@ -1,0 +1,48 @@
+//! Each event keeps what holds of a cluster's clocks, times and messages: a law is the contract of a function with an empty body.
+ghost use Rattle.std.specs.Prelude.{◌≡◌, [], ℕ, List, Some, All};
+ghost use Rattle.chunk_map.specs.Map.{Map};
+ghost use Rattle.shard_core.specs.NodeStep.{NodeState, started};
+ghost use Rattle.txn_model.specs.declared.ran.Ran.{Ran};
+ghost use Rattle.cluster_core.specs.Nodes.{Nodes};
+ghost use Rattle.cluster_core.specs.Trace.{Happens, IsTrace, IsFresh};
+ghost use Rattle.cluster_core.specs.Parts.{ClockBelowCeiling, ReadsBehind, TagsBegunOnce};
+ghost use Rattle.world_laws.specs.Clocks.{ClocksStand};
+ghost use Rattle.world_laws.specs.Asking.{AllRoutersAsk};
+ghost use Rattle.world_laws.specs.Joint.{Stands, DiskStands, DisksStand};
+ghost use Rattle.world_laws.specs.ReadTimes.{ReadsStand, RoutersAsk};
+ghost use Rattle.world_laws.specs.Tags.{AllPlansNamed, BeginsNothing};
+
+/// A running shard's clock is at or below its last ceiling, behind each event.
+pub fn clocks_stay_below_their_ceilings()
+    ensures step { (old : Nodes) (ran : Ran) (new : Nodes) → Happens old ran new → ClocksStand old → ClocksStand new }
+    ensures part { (nodes : Nodes) → ClocksStand nodes → All ClockBelowCeiling nodes.shards }
+{}
+
+/// What a router sends, and what it waits for, is no message of a shard, at each event.
+pub fn routers_ask_and_shards_tell()
+    ensures step { (old : Nodes) (ran : Ran) (new : Nodes) → Happens old ran new → AllRoutersAsk old → AllRoutersAsk new }
+    ensures sent { (old : Nodes) (ran : Ran) (new : Nodes) → Happens old ran new → AllRoutersAsk old → RoutersAsk ran }
+{}
+
+/// Each read timestamp that a shard answered, and each time in its records, is at or below its clock while it runs and its
+/// last ceiling, behind each event.
+pub fn reads_stay_behind()
+    ensures step { (old : Nodes) (ran : Ran) (new : Nodes) → Happens old ran new → AllRoutersAsk old → ClocksStand old → ReadsStand old → ReadsStand new }
+    ensures part { (nodes : Nodes) → ReadsStand nodes → ReadsBehind nodes }
+{}
+
+/// What a shard coordinates was named by a message, behind each event; and tags stand for what they stood for behind each
+/// event but a router's step.
+pub fn tags_are_begun_once()
+    ensures plans { (old : Nodes) (ran : Ran) (new : Nodes) → Happens old ran new → AllPlansNamed old → AllPlansNamed new }
+    ensures tags { (old : Nodes) (ran : Ran) (new : Nodes) → Happens old ran new → BeginsNothing ran → AllPlansNamed old → TagsBegunOnce old → TagsBegunOnce new }
+{}
+
+/// All of this stands behind each event, and so behind each run, where it stood before. It stands of nodes that have started
+/// where their disks' records have no time above their last ceiling and begin no commit of several shards; a new disk's do.
+pub fn each_run_keeps_what_stands()
+    ensures step { (old : Nodes) (ran : Ran) (new : Nodes) → Happens old ran new → Stands old → Stands new }
+    ensures run { (old : Nodes) (run : List Ran) (trace : List Nodes) (new : Nodes) → IsTrace old run trace new → Stands old → Stands new }
+    ensures fresh { (chunks : Map) (nodes : Nodes) → IsFresh chunks nodes → DisksStand nodes → Stands nodes }
+    ensures disk { (number faults : ℕ) (n : NodeState) → started number [] faults ≡ Some n → DiskStands n.records }
+{}
