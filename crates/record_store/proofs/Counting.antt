@@ -1,10 +1,10 @@
 -- Frames that stand in front of a byte at fault.
-use Rattle.std.proofs.Common.{◌≡◌, ◌≤◌, ◌<◌, ◌+◌, ◌⊎◌, inl, inr, ℕ, suc, Bool, true, false, cond, List, [], ◌∷◌, ◌++◌, length, take, drop, Ok, Err, Result, nat_eq, nat_lt, refl, sym, ap, subst, ◌∙◌, arith}
+use Rattle.std.proofs.Common.{◌≡◌, ◌≤◌, ◌<◌, ◌+◌, ◌⊎◌, inl, inr, ℕ, suc, Bool, true, false, cond, List, [], ◌∷◌, length, take, Ok, Err, nat_eq, nat_lt, refl, sym, ap, subst, ◌∙◌, arith}
 use Rattle.std.specs.Prelude.{IsTrue}
 use Rattle.std.proofs.lemmas.Bool.{eqb-true, cases_lt}
 use Rattle.std.proofs.lemmas.Bool.Decides.{nat_tests}
 use Rattle.outside_core.specs.declared.disk.Disk.{Ghosts}
-use Rattle.journal_core.specs.Frames.{header, spell, payloads_of, read_behind}
+use Rattle.journal_core.specs.Frames.{header, payloads_of, read_behind}
 use Rattle.journal_core.specs.Looks.{Looks}
 use Rattle.journal_core.specs.Starts.{EndsAt, UnfitAt, Walked}
 use Rattle.journal_core.proofs.Spelling.{reads_as, young_reads}

@@ -1,5 +1,5 @@
 -- Reading payloads as records, one after the other.
-use Rattle.std.proofs.Common.{◌≡◌, inl, inr, ℕ, ◌+◌, List, [], ◌∷◌, ◌++◌, map, drop, Result, Ok, Err, refl, sym, ap, ◌∙◌, append_assoc, append-nil}
+use Rattle.std.proofs.Common.{◌≡◌, inl, ℕ, ◌+◌, List, [], ◌∷◌, ◌++◌, Result, Ok, Err, refl, sym, ap, ◌∙◌, append_assoc, append-nil}
 use Rattle.journal_rec.specs.Reading.{record_of}
 use Rattle.journal_rec.specs.declared.error.RecErr.{RecErr}
 use Rattle.journal_rec.specs.declared.record.Rec.{Rec}

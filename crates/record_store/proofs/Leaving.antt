@@ -1,5 +1,5 @@
 -- What a crash leaves of a log on a disk.
-use Rattle.std.proofs.Common.{◌≡◌, ◌<◌, ◌≤◌, ◌^◌, ℕ, Bool, true, false, List, [], length, Option, Some, None, is_some, refl, sym, ◌∙◌, append-nil}
+use Rattle.std.proofs.Common.{◌≡◌, ◌<◌, ◌≤◌, ◌^◌, ℕ, false, List, [], length, Option, Some, None, is_some, refl, sym, ◌∙◌, append-nil}
 use Rattle.outside_core.specs.Crash.{LeavesOnly}
 use Rattle.outside_core.specs.declared.disk.Disk.{Ghosts}
 use Rattle.outside_core.proofs.Moments.{then_goes}

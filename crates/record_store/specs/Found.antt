@@ -2,7 +2,6 @@
 use Rattle.std.specs.Prelude.{◌≡◌, ◌⊎◌, ◌<◌, ℕ, ◌+◌, List, [], ◌∷◌, Result, Ok, Err}
 use Rattle.journal_core.specs.Frames.{payloads_of}
 use Rattle.journal_core.specs.Starts.{Walked}
-use Rattle.journal_core.specs.State.{JournalState}
 use Rattle.journal_rec.specs.Reading.{record_of}
 use Rattle.journal_rec.specs.declared.error.RecErr.{RecErr}
 use Rattle.journal_rec.specs.declared.record.Rec.{Rec}

@@ -1,10 +1,11 @@
 //! Records in the journal of a disk.
-ghost use Rattle.std.specs.Prelude.{◌≡◌, ◌≤◌, [], false, None, ℕ, List, IsTrue, IfOk, IfErr};
-ghost use Rattle.outcomes.specs.Causes.{Rose};
+ghost use Rattle.std.specs.Prelude.{◌≡◌, ◌⊎◌, ◌≤◌, ◌<◌, ◌+◌, ◌++◌, [], ◌∷◌, false, None, Some, ℕ, List, drop, is_err, IsTrue, IfOk, IfErr, OnOk, OnErr};
+ghost use Rattle.outcomes.specs.Causes.{FailsOnly, Rose};
 ghost use Rattle.outside_core.specs.Crash.{LeavesOnly};
 ghost use Rattle.journal_core.specs.Left.{Leaves, IsAtRest};
 ghost use Rattle.journal_core.specs.Looks.{Looks};
-ghost use Rattle.record_store.specs.Logged.{listed};
+ghost use Rattle.journal_rec.specs.Spelling.{body_bytes, record_bytes};
+ghost use Rattle.record_store.specs.Logged.{listed, LeftOf};
 
 use crate::error::NodeErr;
 use crate::frames::refuse;
@@ -102,9 +103,41 @@ impl<D: Disk> DiskLog<D> {
         }
     }
 
-    /// The disk, to start again.
+    /// Adds a record, whose bytes behind its front are in the payload. It takes no memory.
+    pub fn put(&mut self, rec: Rec, payload: &mut Payload) -> Result<(), DiskErr>
+        requires open { self.old.journal.closed ≡ false }
+        requires room { 0 < self.old.room }
+        requires carries { (body_bytes rec ≡ []) ⊎ (body_bytes rec ≡ drop 64 payload.old) }
+        ensures ok { OnOk result ((self.new.records ≡ self.old.records ++ rec ∷ [])
+            × (self.new.hand ≡ self.old.hand) × (self.old.room ≡ self.new.room + 1)) }
+        ensures err { OnErr result ((self.new.records ≡ self.old.records) × (self.new.hand ≡ Some rec)) }
+        ensures closed { self.new.journal.closed ≡ is_err result }
+        ensures faults { FailsOnly DiskErr.Failed
+            (D.fault_count self.old.journal.disk) (D.fault_count self.new.journal.disk) result }
+        ensures payload { drop 64 payload.new ≡ drop 64 payload.old }
+        ensures tells { D.tells self.new.journal.disk ≡ D.tells self.old.journal.disk }
+        // A crash at any moment leaves the payloads from before, or these and the record's.
+        ensures any_moment { IsTrue (D.tells self.old.journal.disk)
+            → LeavesOnly D.moment D.left_since self.old.journal.disk self.new.journal.disk
+            (Leaves self.old.journal.frames (record_bytes rec)) }
+    {
+        let place = payload.put_front(&rec);
+        match self.journal.append(payload.record_at(place, &rec)) {
+            Ok(()) => {
+                self.records.push_reserved(rec);
+                Ok(())
+            }
+            Err(_) => {
+                self.hand = Some(rec);
+                Err(DiskErr::Failed)
+            }
+        }
+    }
+
+    /// The disk, to start again. A crash leaves its records, or these and the one in hand.
     pub fn into_disk(self) -> D
-        ensures { result ≡ self.journal.disk }
+        ensures disk { result ≡ self.journal.disk }
+        ensures left { IsTrue (D.tells result) → LeftOf (D.may_leave result) self.records self.hand }
     {
         let DiskLog { journal, .. } = self;
         journal.into_disk()
@@ -135,16 +168,6 @@ impl<D: Disk> RecordLog for DiskLog<D> {
     }
 
     fn append(&mut self, rec: Rec, payload: &mut Payload) -> Result<(), DiskErr> {
-        let place = payload.put_front(&rec);
-        match self.journal.append(payload.record_at(place, &rec)) {
-            Ok(()) => {
-                self.records.push_reserved(rec);
-                Ok(())
-            }
-            Err(_) => {
-                self.hand = Some(rec);
-                Err(DiskErr::Failed)
-            }
-        }
+        self.put(rec, payload)
     }
 }

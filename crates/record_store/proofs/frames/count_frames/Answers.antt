@@ -1,4 +1,4 @@
-use Rattle.std.proofs.Common.{◌≡◌, ◌⊎◌, ℕ, List, IsTrue, arith, ◌∙◌, subst, length}
+use Rattle.std.proofs.Common.{◌⊎◌, ℕ, List, arith, ◌∙◌, subst}
 use Rattle.outside_core.proofs.Moments.{still}
 use Rattle.journal_core.specs.Starts.{EndsAt, FrameAt, UnfitAt}
 use Rattle.journal_core.proofs.Walks.{walked_on, looks_then}

@@ -1,4 +1,4 @@
-use Rattle.std.proofs.Common.{inl, inr, arith, refl}
+use Rattle.std.proofs.Common.{inr, arith, refl}
 use Rattle.journal_core.proofs.Walks.{unfit_at, frame_at}
 use Rattle.record_store.proofs.frames.frame_at.Goals as goal
 

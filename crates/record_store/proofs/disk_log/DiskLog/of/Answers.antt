@@ -1,7 +1,6 @@
-use Rattle.std.proofs.Common.{◌≡◌, [], List, ℕ, sym, subst, arith, ◌∙◌}
+use Rattle.std.proofs.Common.{[], List, ℕ, sym, subst, arith}
 use Rattle.std.specs.Prelude.{IsTrue}
 use Rattle.outside_core.proofs.Moments.{still}
-use Rattle.journal_core.specs.Left.{Leaves}
 use Rattle.record_store.specs.Logged.{AreOf}
 use Rattle.record_store.proofs.Gathered.{are_of}
 use Rattle.record_store.proofs.Leaving.{rest_leaves}

@@ -1,4 +1,3 @@
-use Rattle.std.proofs.Common.{◌≡◌, sym, ap, subst, ◌∙◌}
 use Rattle.outside_core.proofs.Moments.{still}
 use Rattle.journal_core.specs.Left.{Leaves}
 use Rattle.record_store.specs.Found.{disk_in}

@@ -1,5 +1,4 @@
-use Rattle.std.proofs.Common.{ℕ, List, ◌≡◌, drop, take, length, inl, inr, arith, sym, ap, ◌∙◌, refl, subst}
-use Rattle.journal_rec.specs.Spelling.{front_bytes, body_bytes}
+use Rattle.std.proofs.Common.{ℕ, List, ◌≡◌, drop, take, length, inl, inr, arith, sym, ap, ◌∙◌, refl}
 use Rattle.record_store.proofs.Fronts.{whole_record, bare_record}
 use Rattle.record_store.proofs.payload.Payload.record_at.Goals as goal
 

@@ -1,4 +1,4 @@
-use Rattle.std.proofs.Common.{◌≡◌, inr, ◌++◌, [], ◌∷◌, List, ℕ, Option, true, false, Some, None, is_err, refl, sym, ap, subst, ◌∙◌, arith}
+use Rattle.std.proofs.Common.{◌≡◌, inr, ◌++◌, [], ◌∷◌, List, ℕ, Option, true, false, None, is_err, sym, ap, subst, ◌∙◌, arith}
 use Rattle.std.specs.Prelude.{IsTrue}
 use Rattle.outside_core.proofs.Moments.{still}
 use Rattle.journal_core.specs.Left.{Leaves}
@@ -6,7 +6,7 @@ use Rattle.journal_rec.specs.declared.record.Rec.{Rec}
 use Rattle.record_store.specs.Logged.{payload_in, AreOf}
 use Rattle.record_store.proofs.Leaving.{none_of, rest_leaves}
 use Rattle.record_store.proofs.Gathered.{are_push}
-use Rattle.record_store.proofs.disk_log.DiskLogRecordLog.append.Goals as goal
+use Rattle.record_store.proofs.disk_log.DiskLog.put.Goals as goal
 
 pub invariant_of-self : goal.invariant_of-self
 invariant_of-self g c =
