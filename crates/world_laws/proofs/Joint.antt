@@ -22,6 +22,7 @@ use Rattle.world_laws.specs.ReadTimes.{NodeReads}
 use Rattle.world_laws.specs.Clocks.{ClockStands}
 use Rattle.world_laws.specs.Tags.{BeginsNamed, PlansNamed}
 use Rattle.world_laws.specs.Joint.{Stands, NoName, DiskStands, DisksStand}
+use Rattle.world_laws.proofs.Once.{once_step, tags_all, once_fresh, tags_fresh}
 use Rattle.world_laws.proofs.Clocks.{clocks_step, starts_clock, started_is, ceiling_on}
 use Rattle.world_laws.proofs.ReadTimes.{reads_step, starts_reads}
 use Rattle.world_laws.proofs.RouterSteps.{routers_step, routers_sent}
@@ -33,6 +34,8 @@ stands_step old ran new h s = record {
   asks = routers_step old ran new h s.asks;
   reads = reads_step old ran new h (routers_sent old ran new h s.asks) s.clocks s.reads;
   plans = plans_step old ran new h s.plans;
+  begun = once_step old ran new h s.plans s.tags s.begun;
+  tags = tags_all old ran new h s.plans s.begun s.tags;
 }
 
 pub stands_run : (old : Nodes) (run : List Ran) (trace : List Nodes) (new : Nodes) → IsTrace old run trace new → Stands old → Stands new
@@ -87,6 +90,8 @@ stands_fresh chunks nodes h d =
         answers = subst (All (AnswersBehind nodes)) (sym h.sent) (All-nil (AnswersBehind nodes));
       };
       plans = λ number n e. (at number n e).2;
+      begun = once_fresh chunks nodes h;
+      tags = tags_fresh chunks nodes h;
     }
 
 -- a new disk has one record, of its first boot

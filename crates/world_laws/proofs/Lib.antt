@@ -13,4 +13,8 @@ mod StepTimes
 mod ReadTimes
 mod Asking
 mod RouterSteps
+mod Deeds
+mod Going
+mod Beginning
+mod Once
 mod Joint

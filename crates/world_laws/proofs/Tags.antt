@@ -26,11 +26,11 @@ use Rattle.txn_model.specs.declared.ran.Ran.{Ran}
 use Rattle.txn_model.specs.declared.ran.Ran.TheVariants.{Step, Swapped}
 use Rattle.cluster_core.specs.Naming.{given_out, Named, named_in}
 use Rattle.cluster_core.specs.Nodes.{Nodes}
-use Rattle.cluster_core.specs.Trace.{Happens, MayCome, MayRemain, again}
+use Rattle.cluster_core.specs.Trace.{Happens, ShardSteps, ShardStarts, RouterStarts, MayCome, MayRemain, again}
 use Rattle.cluster_core.specs.Parts.{names_of, TagsBegunOnce, WasDrawn}
 use Rattle.world_laws.specs.Effect.{AllPlans, plan_name, NamesBy, SentNames, MayRecord, StepRecords}
 use Rattle.world_laws.specs.Clocks.{EachShard}
-use Rattle.world_laws.specs.Tags.{BeginsNamed, PlansNamed, AllPlansNamed, BeginsNothing}
+use Rattle.world_laws.specs.Tags.{BeginsNamed, PlansNamed, AllPlansNamed}
 use Rattle.world_laws.proofs.Lists.{set_get}
 use Rattle.world_laws.proofs.Naming.{one, put_all, taken_all, found}
 use Rattle.world_laws.proofs.Steps.{step_does}
@@ -39,7 +39,7 @@ use Rattle.world_laws.proofs.Clocks.{started_is, each_set, each_same}
 
 -- the names in a list of messages
 
-abbrev names : List Envelope → List Named
+abbrev pub names : List Envelope → List Named
 names sent = filter_map (λ e. named_in e.msg) sent
 
 abbrev with_name : Option Named → List Named → List Named
@@ -61,7 +61,7 @@ sent_first P e sent (Some n) is h more =
     All-cons (λ (e : Envelope). IfSome (named_in e.msg) P) e sent (subst (λ (o : Option Named). IfSome o P) (sym is) (All-head P n (names sent) all)) (more (All-tail P n (names sent) all))
 
 -- what holds of the names of all messages holds of each message's
-names_all : (P : Named → Type 0) (sent : List Envelope) → SentNames P sent → All P (names sent)
+pub names_all : (P : Named → Type 0) (sent : List Envelope) → SentNames P sent → All P (names sent)
 names_all P [] h = All-nil P
 names_all P (e ∷ sent) h =
     name_first P e sent (named_in e.msg) refl (All-head (λ (e : Envelope). IfSome (named_in e.msg) P) e sent h) (names_all P sent (All-tail (λ (e : Envelope). IfSome (named_in e.msg) P) e sent h))
@@ -169,18 +169,18 @@ weaker P R h s c =
     }
 
 -- all plans are named by what was sent before and is sent now
-on_sent : (old new : Nodes) (out : List Envelope) → new.sent ≡ old.sent ++ out → (n : Named) → Contains (names_of old) n → Contains (names_of new) n
+pub on_sent : (old new : Nodes) (out : List Envelope) → new.sent ≡ old.sent ++ out → (n : Named) → Contains (names_of old) n → Contains (names_of new) n
 on_sent old new out e n h =
     subst (λ (sent : List Envelope). Contains (names sent) n) (sym e) (subst (λ (ns : List Named). Contains ns n) (sym (filter_map-append (λ (e : Envelope). named_in e.msg) old.sent out)) (Contains-append_left (names old.sent) (names out) n h))
 
 -- what is named behind a step that names nothing new was named before
-back_sent : (old new : Nodes) (out : List Envelope) → new.sent ≡ old.sent ++ out → SentNames (Contains (names_of old)) out → (n : Named) → Contains (names_of new) n → Contains (names_of old) n
+pub back_sent : (old new : Nodes) (out : List Envelope) → new.sent ≡ old.sent ++ out → SentNames (Contains (names_of old)) out → (n : Named) → Contains (names_of new) n → Contains (names_of old) n
 back_sent old new out e k n h =
     let here : Contains (names old.sent ++ names out) n = subst (λ (ns : List Named). Contains ns n) (filter_map-append (λ (e : Envelope). named_in e.msg) old.sent out) (subst (λ (sent : List Envelope). Contains (names sent) n) e h) in
     elim (Contains-append_cases (names old.sent) (names out) n here) [ inl w ↦ w | inr w ↦ All-contains (Contains (names_of old)) (names out) n (names_all (Contains (names_of old)) out k) w ]
 
 -- tags stand for what they stood for, where nothing new is named, and routers go on
-abbrev GoOn : Nodes → Nodes → Type 0
+abbrev pub GoOn : Nodes → Nodes → Type 0
 GoOn old new = (i : ℕ) (r : RouterState) → slice_get old.routers i ≡ Some r → (s : RouterState) × (slice_get new.routers i ≡ Some s) × ((tag : Tag) → WasDrawn r tag → WasDrawn s tag)
 
 pub tags_stay : (old new : Nodes) → ((n : Named) → Contains (names_of new) n → Contains (names_of old) n) → GoOn old new → TagsBegunOnce old → TagsBegunOnce new
@@ -212,7 +212,7 @@ restarted old new n before there e i r h =
     ]
 
 -- what a step of a shard names
-names_back : (old : Nodes) (n : ℕ) (e : NodeEvent) (a : NodeAnswer) (before after : NodeState) → slice_get old.shards n ≡ Some before → MayCome old.sent (Shard n) e.what → ShardTakes before e a after → AllPlansNamed old
+pub names_back : (old : Nodes) (n : ℕ) (e : NodeEvent) (a : NodeAnswer) (before after : NodeState) → slice_get old.shards n ≡ Some before → MayCome old.sent (Shard n) e.what → ShardTakes before e a after → AllPlansNamed old
     → PlansNamed (Contains (names_of old)) after × SentNames (Contains (names_of old)) (given_out a)
 names_back old n e a before after there comes takes c = takes_named (Contains (names_of old)) before e a after takes (comes_named old (Shard n) e.what comes) (c n before there)
 
@@ -222,7 +222,7 @@ stay_named old new on c number s e = weaker (Contains (names_of old)) (Contains 
 same_sent : (old new : Nodes) → new.sent ≡ old.sent → (n : Named) → Contains (names_of old) n → Contains (names_of new) n
 same_sent old new e n h = subst (λ (sent : List Envelope). Contains (names sent) n) (sym e) h
 
-same_back : (old new : Nodes) → new.sent ≡ old.sent → (n : Named) → Contains (names_of new) n → Contains (names_of old) n
+pub same_back : (old new : Nodes) → new.sent ≡ old.sent → (n : Named) → Contains (names_of new) n → Contains (names_of old) n
 same_back old new e n h = subst (λ (sent : List Envelope). Contains (names sent) n) e h
 
 pub plans_step : (old : Nodes) (ran : Ran) (new : Nodes) → Happens old ran new → AllPlansNamed old → AllPlansNamed new
@@ -240,12 +240,16 @@ plans_step old (Swapped (Router n)) new h c =
     stay_named old new (same_sent old new (ap (λ (w : Nodes). w.sent) h.nodes))
     (each_same (λ number s. PlansNamed (Contains (names_of old)) s) old new (ap (λ (w : Nodes). w.shards) h.nodes) c)
 
-pub tags_step : (old : Nodes) (ran : Ran) (new : Nodes) → Happens old ran new → BeginsNothing ran → AllPlansNamed old → TagsBegunOnce old → TagsBegunOnce new
-tags_step old (Step (Shard n) e a faults) new h b c t =
+-- what a shard's step, its start and a router's start leave
+
+pub tags_shard : (old : Nodes) (n : ℕ) (e : NodeEvent) (a : NodeAnswer) (faults : ℕ) (new : Nodes) → ShardSteps old n e a faults new → AllPlansNamed old → TagsBegunOnce old → TagsBegunOnce new
+tags_shard old n e a faults new h c t =
     tags_stay old new (back_sent old new (given_out a) (ap (λ (w : Nodes). w.sent) h.nodes) (names_back old n e a h.before h.after h.there h.comes h.takes c).1)
     (same_routers old new (ap (λ (w : Nodes). w.routers) h.nodes)) t
-tags_step old (Step (Router n) e a faults) new h b c t = absurd b
-tags_step old (Swapped (Shard n)) new h b c t =
-    tags_stay old new (same_back old new (ap (λ (w : Nodes). w.sent) h.nodes)) (same_routers old new (ap (λ (w : Nodes). w.routers) h.nodes)) t
-tags_step old (Swapped (Router n)) new h b c t =
+
+pub tags_shard_start : (old : Nodes) (n : ℕ) (new : Nodes) → ShardStarts old n new → TagsBegunOnce old → TagsBegunOnce new
+tags_shard_start old n new h t = tags_stay old new (same_back old new (ap (λ (w : Nodes). w.sent) h.nodes)) (same_routers old new (ap (λ (w : Nodes). w.routers) h.nodes)) t
+
+pub tags_router_start : (old : Nodes) (n : ℕ) (new : Nodes) → RouterStarts old n new → TagsBegunOnce old → TagsBegunOnce new
+tags_router_start old n new h t =
     tags_stay old new (same_back old new (ap (λ (w : Nodes). w.sent) h.nodes)) (restarted old new n h.before h.there (ap (λ (w : Nodes). w.routers) h.nodes)) t

@@ -1,21 +1,24 @@
 -- What holds of a cluster in each state that it comes to, as far as it is shown: of clocks, of the times that shards answer and
--- record, of what routers send, and of what shards coordinate. Each event keeps it as a whole.
+-- record, of what routers send, of what shards coordinate, and of what tags stand for. Each event keeps it as a whole.
 use Rattle.std.specs.Prelude.{◌<◌, ◌^◌, List, All}
 use Rattle.journal_rec.specs.declared.record.Rec.{Rec}
 use Rattle.cluster_core.specs.Naming.{Named}
 use Rattle.cluster_core.specs.Nodes.{Nodes}
-use Rattle.cluster_core.specs.Parts.{last_ceiling}
+use Rattle.cluster_core.specs.Parts.{last_ceiling, TagsBegunOnce}
 use Rattle.world_laws.specs.Clocks.{EachShard, ClocksStand}
 use Rattle.world_laws.specs.Behind.{RecBehind}
 use Rattle.world_laws.specs.ReadTimes.{ReadsStand}
 use Rattle.world_laws.specs.Asking.{AllRoutersAsk}
 use Rattle.world_laws.specs.Tags.{BeginsNamed, AllPlansNamed}
+use Rattle.world_laws.specs.Begins.{AllBegunOnce}
 
 pub record Stands (nodes : Nodes) : Type 0 where
   pub clocks : ClocksStand nodes
   pub asks : AllRoutersAsk nodes
   pub reads : ReadsStand nodes
   pub plans : AllPlansNamed nodes
+  pub begun : AllBegunOnce nodes
+  pub tags : TagsBegunOnce nodes
 
 -- What may be on the disks that a cluster starts from: the last ceiling is a time, no record has one above it, and no commit
 -- of several shards was begun.

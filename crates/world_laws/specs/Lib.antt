@@ -5,3 +5,4 @@ pub mod Behind
 pub mod ReadTimes
 pub mod Asking
 pub mod Joint
+pub mod Begins

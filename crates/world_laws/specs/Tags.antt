@@ -4,9 +4,6 @@ use Rattle.std.specs.Prelude.{All, Contains}
 use Rattle.journal_rec.specs.declared.record.Rec.{Rec}
 use Rattle.journal_rec.specs.declared.record.Rec.TheVariants as rec
 use Rattle.shard_core.specs.NodeStep.{NodeState}
-use Rattle.txn_model.specs.declared.ran.Ran.{Ran}
-use Rattle.txn_model.specs.declared.ran.Ran.TheVariants.{Step}
-use Rattle.txn_types.specs.declared.node.NodeId.TheVariants.{Router}
 use Rattle.cluster_core.specs.Naming.{Named}
 use Rattle.cluster_core.specs.Nodes.{Nodes}
 use Rattle.cluster_core.specs.Parts.{names_of}
@@ -24,8 +21,3 @@ pub record PlansNamed (P : Named → Type 0) (n : NodeState) : Type 0 where
 
 abbrev pub AllPlansNamed : Nodes → Type 0
 AllPlansNamed nodes = EachShard nodes (λ number n. PlansNamed (Contains (names_of nodes)) n)
-
--- all but a router's step
-abbrev pub BeginsNothing : Ran → Type 0
-BeginsNothing (Step (Router n) e a faults) = ⊥
-BeginsNothing other = Unit {0}

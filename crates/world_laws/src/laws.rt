@@ -10,7 +10,8 @@ ghost use Rattle.world_laws.specs.Clocks.{ClocksStand};
 ghost use Rattle.world_laws.specs.Asking.{AllRoutersAsk};
 ghost use Rattle.world_laws.specs.Joint.{Stands, DiskStands, DisksStand};
 ghost use Rattle.world_laws.specs.ReadTimes.{ReadsStand, RoutersAsk};
-ghost use Rattle.world_laws.specs.Tags.{AllPlansNamed, BeginsNothing};
+ghost use Rattle.world_laws.specs.Begins.{AllBegunOnce};
+ghost use Rattle.world_laws.specs.Tags.{AllPlansNamed};
 
 /// A running shard's clock is at or below its last ceiling, behind each event.
 pub fn clocks_stay_below_their_ceilings()
@@ -31,11 +32,17 @@ pub fn reads_stay_behind()
     ensures part { (nodes : Nodes) → ReadsStand nodes → ReadsBehind nodes }
 {}
 
-/// What a shard coordinates was named by a message, behind each event; and tags stand for what they stood for behind each
-/// event but a router's step.
+/// What a shard coordinates was named by a message, behind each event.
+pub fn what_is_coordinated_was_named()
+    ensures { (old : Nodes) (ran : Ran) (new : Nodes) → Happens old ran new → AllPlansNamed old → AllPlansNamed new }
+{}
+
+/// A tag stands for one begin at one router, behind each event. What names it names one session and number; its serial was drawn
+/// at its router; and a router begins one transaction for a session and number in a boot. What a router has begun in this boot
+/// stands beside it: its session has it still, or has gone on to a larger number.
 pub fn tags_are_begun_once()
-    ensures plans { (old : Nodes) (ran : Ran) (new : Nodes) → Happens old ran new → AllPlansNamed old → AllPlansNamed new }
-    ensures tags { (old : Nodes) (ran : Ran) (new : Nodes) → Happens old ran new → BeginsNothing ran → AllPlansNamed old → TagsBegunOnce old → TagsBegunOnce new }
+    ensures begun { (old : Nodes) (ran : Ran) (new : Nodes) → Happens old ran new → AllPlansNamed old → TagsBegunOnce old → AllBegunOnce old → AllBegunOnce new }
+    ensures tags { (old : Nodes) (ran : Ran) (new : Nodes) → Happens old ran new → AllPlansNamed old → AllBegunOnce old → TagsBegunOnce old → TagsBegunOnce new }
 {}
 
 /// All of this stands behind each event, and so behind each run, where it stood before. It stands of nodes that have started
