@@ -40,11 +40,10 @@ none_read : (number : ℕ) (payloads : List (List ℕ)) (recs : List Rec) → Ar
 none_read number [] recs are fit = (number, ap (λ (x : Result Rec RecErr). read_then number x (Ok [])) no_record)
 none_read number (payload ∷ payloads) [] are fit = absurd are
 none_read number (payload ∷ payloads) (r ∷ recs) are fit =
-    let more = none_read (number + 1) payloads recs are.1 fit.1 in
-    (
+    let more = none_read (number + 1) payloads recs are.1 fit.1 in (
       more.0,
       ap (λ (x : Result Rec RecErr). read_then number x (records_from (number + 1) (payloads ++ [] ∷ []))) (one_read payload r are.0 fit.0)
-      ∙ ap (λ (x : Result (List Rec) ℕ). in_front r x) more.1,
+          ∙ ap (λ (x : Result (List Rec) ℕ). in_front r x) more.1,
     )
 
 behind : (payloads : List (List ℕ)) (recs found : List Rec) (hand : Option Rec) → AreOf payloads recs → AllFit recs → HandFits hand → records_of (payloads ++ payload_in hand ∷ []) ≡ Ok found
