@@ -3,3 +3,4 @@ pub mod News
 pub mod Safe
 pub mod Step
 pub mod Turning
+pub mod Laws

@@ -4,6 +4,7 @@
 
 mod commits;
 mod ends;
+pub mod laws;
 mod moves;
 mod news;
 mod requests;
