@@ -1,7 +1,7 @@
 -- Answered statements come of Answers that were sent, by the run's steps one after the other.
-use Rattle.std.proofs.Common.{◌≡◌, inl, inr, ◌⊎◌, ℕ, Bool, true, false, not, ◌&&◌, All, List, [], ◌∷◌, ◌++◌, map, filter, length, nat_eq, Option, Some, None, refl, sym, ap, subst, ◌∙◌, arith, if◌then◌else◌}
+use Rattle.std.proofs.Common.{◌≡◌, ℕ, Bool, true, false, not, ◌&&◌, All, List, [], ◌∷◌, ◌++◌, length, nat_eq, Option, Some, None, refl, sym, ap, subst, ◌∙◌, arith}
 use Rattle.std.specs.Prelude.{Contains, slice_get, is_some}
-use Rattle.std.specs.List.{list_any, list_all}
+use Rattle.std.specs.List.{list_any}
 use Rattle.std.specs.Ordering.{nat_cmp}
 use Rattle.std.proofs.lemmas.List.{append-nil, append_assoc}
 use Rattle.std.proofs.lemmas.List.Elements.{All-nil, All-cons, All-head, All-tail, All-append, All-weaker, All-map, All-filter, Contains-append_left, Contains-append_right, All-contains_itself}
@@ -24,7 +24,7 @@ use Rattle.router_state.specs.State.{RouterState}
 use Rattle.txn_model.specs.declared.ran.Ran.{Ran}
 use Rattle.txn_model.specs.declared.ran.Ran.TheVariants.{Step, Swapped}
 use Rattle.participant.proofs.Cases.{either}
-use Rattle.cluster_core.specs.Answering.{Unanswered, answered_of, answered_among, meaning_in, is_for, with_answer, is_complete, all_say, taken_msg, taken_what, opened, opened_by as opened_parts, statements_in, unanswered_behind, left_unanswered}
+use Rattle.cluster_core.specs.Answering.{Unanswered, answered_of, answered_among, meaning_in, is_for, with_answer, is_complete, all_say, taken_msg, taken_what, opened, opened_by as opened_parts, statements_in, unanswered_behind}
 use Rattle.cluster_core.specs.Ledger.{Ledger, Entered, fresh_ledger, entered, entered_at, entered_by, passed, swapped, answered_from}
 use Rattle.cluster_core.specs.Nodes.{Nodes}
 use Rattle.cluster_core.specs.Routers.{Asked, is_memory, request_at}
