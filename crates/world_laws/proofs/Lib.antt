@@ -17,4 +17,8 @@ mod Deeds
 mod Going
 mod Beginning
 mod Once
+mod PartRecords
+mod RuledRecords
+mod StepRecords
+mod NodeRecords
 mod Joint
