@@ -1,6 +1,6 @@
 # What a new user and the gate call. `rt` is the command of the Rattle kit.
 
-.PHONY: demo first-insert play test build bench
+.PHONY: demo first-insert play test build bench bench-codecs
 
 SHELL := bash
 .SHELLFLAGS := -o pipefail -c
@@ -30,3 +30,8 @@ build:
 # How many commands a second the proved program does (docs/BENCH.md). No part of the gate.
 bench:
 	bench/commands
+
+# How many megabytes of documents a second are read and written (docs/BENCH.md). No part of the gate.
+bench-codecs:
+	cd crates/codec_cases && rt run > /dev/null
+	bench/codecs

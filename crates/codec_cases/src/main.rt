@@ -1,5 +1,6 @@
 //! Runs the cases of documents, their order, messages and streams that lie in a folder, the current one where none is named,
-//! and prints each that goes another way than it says, and how many there were in each file.
+//! and prints each that goes another way than it says, and how many there were in each file. With three words, as
+//! `read 1000 FILE` or `write 1000 FILE`, it reads or writes the document of the file's digits so often (bench/codecs).
 #![tactic(auto)]
 
 mod cases;
@@ -7,6 +8,7 @@ mod documents;
 mod faults;
 mod messages;
 mod order;
+mod speed;
 mod streams;
 
 use cases::Cases;
@@ -20,20 +22,30 @@ const FILES: [&str; 4] = [
     "streams.cases",
 ];
 
-fn main(rt: HostRuntime) -> io::Result<()> {
+/// Runs the files of cases of a folder.
+fn run(rt: &HostRuntime, folder: &str) -> io::Result<()> {
     let alloc = rt.alloc();
-    let mut words = env::args(&rt)?.skip(1);
-    let folder = match words.next() {
-        Some(folder) => folder,
-        None => String::from_str(alloc, ".")?,
-    };
     for name in FILES {
         let path = format!(in alloc; "{folder}/{name}")?;
-        let text = fs::read_to_string(&rt, path.as_str())?;
+        let text = fs::read_to_string(rt, path.as_str())?;
         let mut cases = Cases::new(alloc);
         let report = cases.run(alloc, text.as_str())?;
         print!(rt; "{report}")?;
         println!(rt; "{name}: {} cases", cases.count)?;
     }
     Ok(())
+}
+
+fn main(rt: HostRuntime) -> io::Result<()> {
+    let alloc = rt.alloc();
+    let mut words = env::args(&rt)?.skip(1);
+    let Some(first) = words.next() else {
+        return run(&rt, ".");
+    };
+    let (Some(times), Some(file)) = (words.next(), words.next()) else {
+        return run(&rt, first.as_str());
+    };
+    let digits = fs::read_to_string(&rt, file.as_str())?;
+    let text = speed::measured(alloc, first.as_str(), times.as_str(), digits.as_str())?;
+    println!(rt; "{text}")
 }

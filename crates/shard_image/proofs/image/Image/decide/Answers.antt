@@ -26,5 +26,5 @@ pub invariant_of-self : goal.invariant_of-self
 invariant_of-self c =
     let j : Image = record { boot = c.self.inside.boot; ceiling = c.self.inside.ceiling; store = c.self.inside.store; sessions = c.self.inside.sessions; pending = c.self.inside.pending; coord = c.self.inside.coord; count = c.self.inside.place.count; greatest = c.self.inside.place.greatest } in
     let can : can_follow_image j (rec.Decided c.args.d.now) ≡ true = subst (λ (i : Image). can_follow_image i (rec.Decided c.args.d.now) ≡ true) (sym c.self.view_is) c.requires.follows in
-    decide_keeps j c.args.d.now c.time_of.result c.session_behind.result c.decide_pending.new.store c.replace.new.self c.take_out.new.pendings c.self.invariant can
-    c.time_of.ensures c.session_behind.ensures c.decide_pending.ensures c.take_out.ensures c.replace.ensures
+    decide_keeps j c.args.d.now c.time_of.result c.session_behind.result c.decide_pending.new.store c.replace.new.self c.forget.new.pendings c.self.invariant can
+    c.time_of.ensures c.session_behind.ensures c.decide_pending.ensures c.forget.ensures c.replace.ensures

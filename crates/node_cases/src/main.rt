@@ -1,0 +1,45 @@
+//! Runs the cases of shards' nodes that lie in a folder, and prints each that goes another way than it says.
+#![tactic(auto)]
+
+mod cases;
+mod documents;
+mod found;
+mod messages;
+mod node;
+mod records;
+mod standing;
+mod stops;
+mod texts;
+mod told;
+mod words;
+
+use cases::Cases;
+use std::{env, fs, io};
+
+/// The files of cases.
+const FILES: [&str; 6] = [
+    "transactions.cases",
+    "decisions.cases",
+    "starts.cases",
+    "faults.cases",
+    "stops.cases",
+    "drawn.cases",
+];
+
+fn main(rt: HostRuntime) -> io::Result<()> {
+    let alloc = rt.alloc();
+    let mut words = env::args(&rt)?.skip(1);
+    let folder = match words.next() {
+        Some(folder) => folder,
+        None => String::from_str(alloc, ".")?,
+    };
+    for name in FILES {
+        let path = format!(in alloc; "{folder}/{name}")?;
+        let text = fs::read_to_string(&rt, path.as_str())?;
+        let mut cases = Cases::new(alloc);
+        let report = cases.run(alloc, text.as_str())?;
+        print!(rt; "{report}")?;
+        println!(rt; "{name}: {} cases", cases.count)?;
+    }
+    Ok(())
+}

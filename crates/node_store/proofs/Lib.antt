@@ -1,0 +1,5 @@
+pub mod Cutting
+pub mod Known
+pub mod Next
+pub mod Rising
+pub mod Taking

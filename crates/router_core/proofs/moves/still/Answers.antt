@@ -1,0 +1,8 @@
+use Rattle.std.proofs.Common.{length}
+use Rattle.router_core.proofs.moves.still.Goals as goal
+
+pub returns-clause-moved : goal.returns-clause-moved
+returns-clause-moved c = c.still.ensures.moved c.args.chunks.now c.args.sessions.now
+
+pub returns-clause-fits : goal.returns-clause-fits
+returns-clause-fits c = c.still.ensures.fits (length c.args.sessions.now)
