@@ -1,0 +1,4 @@
+pub mod Places
+pub mod Lasting
+pub mod Beside
+pub mod Closing
