@@ -1,10 +1,10 @@
 -- A shard at which a message has come.
-use Rattle.std.proofs.Common.{◌≡◌, ℕ, max, Option, Some, None, refl, ap, sym, ◌∙◌}
+use Rattle.std.proofs.Common.{◌≡◌, ℕ, max, Option, Some, None, refl, ap, sym}
 use Rattle.txn_types.specs.Clock.{Clock, raised}
 use Rattle.txn_types.specs.declared.message.Envelope.{Envelope}
-use Rattle.shard_core.specs.State.{ShardState, walled, expired, met, ceiling_of, read_at_of}
+use Rattle.shard_core.specs.State.{ShardState, walled, expired, ceiling_of, read_at_of}
 use Rattle.shard_core.specs.Arrived.{arrived}
-use Rattle.shard_core.proofs.Homes.{expire_keeps}
+use Rattle.shard_core.proofs.Numbered.{expire_keeps}
 
 pub raised_last : (clock : Clock) (bound : Option ℕ) → (raised clock bound).last ≡ clock.last
 raised_last clock None = refl

@@ -1,5 +1,5 @@
 -- Live transactions stay within their volume, whatever a shard's part does.
-use Rattle.std.proofs.Common.{◌≡◌, ◌≤◌, ℕ, ℤ, Bool, true, false, List, [], ◌∷◌, Option, Some, None, Result, Ok, Err, refl, sym, ap, ◌∙◌, nat_eq, nat_le, nat_lt, int_lt, arith, if◌then◌else◌, ◌-◌}
+use Rattle.std.proofs.Common.{◌≡◌, ◌≤◌, ℕ, Bool, true, false, List, [], ◌∷◌, Option, Some, None, Result, Ok, Err, refl, sym, ap, ◌∙◌, nat_eq, nat_le, nat_lt, int_lt, arith, if◌then◌else◌, ◌-◌}
 use Rattle.std.specs.declared.cmp.Ordering.{Ordering}
 use Rattle.std.specs.declared.cmp.Ordering.TheVariants.{Less, Equal, Greater}
 use Rattle.txn_types.specs.BySession.{entry_of}
@@ -21,7 +21,7 @@ use Rattle.txn_types.specs.declared.node.Lsid.{Lsid}
 use Rattle.txn_types.specs.declared.operation.OpReply.{OpReply}
 use Rattle.txn_types.specs.declared.write.Write.{Write}
 use Rattle.txn_types.proofs.Orders.{lsid_total, lsid_exact}
-use Rattle.txn_semantics.specs.Keyed.{put, taken_out, Rises}
+use Rattle.txn_semantics.specs.Keyed.{put, taken_out}
 use Rattle.txn_semantics.specs.Meaning.{Meaning, eval}
 use Rattle.txn_semantics.specs.Rows.{Row}
 use Rattle.txn_semantics.proofs.Laying.{rises_put, rises_taken_out}
@@ -33,10 +33,10 @@ use Rattle.version_store.specs.Versions.{conflict, dropped}
 use Rattle.version_store.specs.declared.version.Held.{Held}
 use Rattle.journal_rec.specs.Volume.{volume}
 use Rattle.participant.specs.declared.said.Open.{Open}
-use Rattle.participant.specs.Part.{Part, session, open_of, closed, without_live, ended, aborted, ends_live, end_live, is_replaced}
-use Rattle.participant.specs.Statement.{Turn, most_bytes, refuses, does, stands, opened, made_room, writes_with, within_volume, unless_conflict, writing, evaluated, scanned, performed, begins, beside_older, beside, first_statement, goes_on, later_statement, by_session, statement, read_time}
-use Rattle.participant.specs.Commit.{Committing, commits_by, commits_writes, commits_open, commits_live, commits_own, commits_session, commit}
-use Rattle.participant.specs.Prepare.{Voting, prepares_by, prepares_open, prepares_live, prepares_own, prepares_session, prepare}
+use Rattle.participant.specs.Part.{Part, session, open_of, closed, without_live, aborted, ends_live, end_live, is_replaced}
+use Rattle.participant.specs.Statement.{Turn, most_bytes, refuses, does, opened, made_room, writes_with, unless_conflict, evaluated, scanned, performed, beside_older, beside, first_statement, goes_on, later_statement, by_session, statement, read_time}
+use Rattle.participant.specs.Commit.{Committing, commits_by, commits_writes, commits_open, commits_own, commits_session, commit}
+use Rattle.participant.specs.Prepare.{Voting, prepares_by, prepares_open, prepares_own, prepares_session, prepare}
 use Rattle.participant.specs.Decide.{decides_prepared, decides_live, decides_own, decides_session, decide}
 use Rattle.participant.specs.Abort.{aborts_own, aborts_session, abort}
 use Rattle.participant.specs.Recover.{recovers_own, recovers_none, recovers_session, recover}

@@ -1,6 +1,6 @@
 -- A step's record carries what is known before the step.
-use Rattle.std.proofs.Common.{◌≡◌, ◌⊎◌, inl, inr, ℕ, ℤ, max, Bool, true, false, List, [], ◌∷◌, Option, Some, None, IfSome, option_map, option_and_then, unwrap_or, refl, sym, ap, ◌∙◌, nat_eq, nat_le, int_lt, nat_lt, ◌-◌, if◌then◌else◌}
-use Rattle.txn_types.specs.Order.{lsid_cmp, same_tag, same_lsid}
+use Rattle.std.proofs.Common.{◌≡◌, ◌⊎◌, inl, inr, ℕ, ℤ, max, Bool, true, false, List, [], ◌∷◌, Option, Some, None, IfSome, option_map, option_and_then, unwrap_or, refl, sym, ap, ◌∙◌, nat_eq, int_lt, if◌then◌else◌}
+use Rattle.txn_types.specs.Order.{same_tag}
 use Rattle.txn_types.specs.declared.cause.Cause.TheVariants as cause
 use Rattle.txn_types.specs.declared.event.Happening.{Happening}
 use Rattle.txn_types.specs.declared.event.Happening.TheVariants as what
@@ -10,12 +10,10 @@ use Rattle.txn_types.specs.declared.event.NodeEvent.{NodeEvent}
 use Rattle.txn_types.specs.declared.message.Acked.{Acked}
 use Rattle.txn_types.specs.declared.message.Commit.{Commit}
 use Rattle.txn_types.specs.declared.message.CommitTwo.{CommitTwo}
-use Rattle.txn_types.specs.declared.message.Decide.{Decide}
 use Rattle.txn_types.specs.declared.message.Envelope.{Envelope}
 use Rattle.txn_types.specs.declared.message.Msg.{Msg}
 use Rattle.txn_types.specs.declared.message.Msg.TheVariants as msg
 use Rattle.txn_types.specs.declared.message.Prepare.{Prepare}
-use Rattle.txn_types.specs.declared.message.Recover.{Recover}
 use Rattle.txn_types.specs.declared.message.Statement.{Statement}
 use Rattle.txn_types.specs.declared.message.Vote.{Vote}
 use Rattle.txn_types.specs.declared.decision.Decision.{Decision}
@@ -35,12 +33,12 @@ use Rattle.coordinator.specs.TwoPhase.{Coordinated, coordinated_of, decided_by, 
 use Rattle.participant.specs.declared.said.Open.{Open}
 use Rattle.participant.specs.declared.said.Said.{Said}
 use Rattle.participant.specs.declared.said.Said.TheVariants.{Did, Blocked, Refused, Late}
-use Rattle.participant.specs.Part.{Part, session, open_of, elsewhere, end_live, is_replaced}
+use Rattle.participant.specs.Part.{Part, session, open_of, elsewhere, is_replaced}
 use Rattle.participant.specs.Statement.{statement, own_of}
-use Rattle.participant.specs.Commit.{Committing, commits_by, commits_writes, commits_open, commits_live, commits_own, commits_session, commit}
-use Rattle.participant.specs.Prepare.{Voting, prepares_by, prepares_open, prepares_live, prepares_own, prepares_session, prepare}
+use Rattle.participant.specs.Commit.{Committing, commits_by, commits_writes, commits_open, commits_own, commits_session, commit}
+use Rattle.participant.specs.Prepare.{Voting, prepares_by, prepares_open, prepares_own, prepares_session, prepare}
 use Rattle.participant.specs.Decide.{decide}
-use Rattle.participant.specs.Expiry.{lifetime, expire_all, expire}
+use Rattle.participant.specs.Expiry.{expire}
 use Rattle.participant.proofs.Cases.{either}
 use Rattle.shard_core.specs.State.{ShardState, met, with_part, ceiling_of}
 use Rattle.shard_core.specs.Ruled.{Ruled, quiet, coordinates}
@@ -50,7 +48,7 @@ use Rattle.shard_core.specs.Rules.{ruled, from_router, router_of}
 use Rattle.shard_core.specs.Wanting.{Wanting, wanting, told_if, told_memory, may_be_told}
 use Rattle.shard_core.specs.Core.{Room, Ample, Scarce, Short, CoreStep, core_step, step_if, stepped, stays, entered, happened, scarce, running_step, stopped_step}
 use Rattle.shard_core.specs.Carrying.{IsBounded, carried_by, carried, Carries, IsCarried}
-use Rattle.shard_core.proofs.Bounded.{bounded_statement, bounded_commit, bounded_prepare, bounded_decide, bounded_abort, bounded_recover, bounded_memory, bounded_expire, bounded_end_live, bounded_aborted, gone_expired}
+use Rattle.shard_core.proofs.Bounded.{bounded_statement, bounded_commit, bounded_prepare, bounded_decide, bounded_abort, bounded_recover, bounded_memory, bounded_expire, bounded_aborted, gone_expired}
 
 -- What commits and prepares carry.
 

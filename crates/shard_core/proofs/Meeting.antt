@@ -1,5 +1,5 @@
 -- A clock behind a ceiling that a delivered message asks for.
-use Rattle.std.proofs.Common.{◌≡◌, ◌⊎◌, inl, inr, ◌<◌, ◌≤◌, ◌-◌, ◌^◌, ℕ, max, Bool, true, false, refl, arith, nat_lt, nat_eq}
+use Rattle.std.proofs.Common.{◌≡◌, ◌⊎◌, inl, inr, ◌<◌, ◌≤◌, ◌^◌, ℕ, max, Bool, true, false, refl, arith, nat_lt, nat_eq}
 use Rattle.txn_types.specs.Clock.{Clock, next_time, reach, raised, ceiling_for, last_time}
 use Rattle.shard_core.specs.Laws.{IsClock}
 use Rattle.shard_core.proofs.Times.{within, tick_within, reach_ends}

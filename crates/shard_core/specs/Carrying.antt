@@ -1,6 +1,6 @@
 -- What a step's record carries behind its front, which is known before the step: the writes that the transaction has, or
 -- the participants that the message names.
-use Rattle.std.specs.Prelude.{◌≡◌, ◌⊎◌, ◌≤◌, ℕ, List, [], ◌∷◌, Option, Some, None, IfSome}
+use Rattle.std.specs.Prelude.{◌≡◌, ◌⊎◌, ◌≤◌, ℕ, List, [], ◌∷◌, Option, IfSome}
 use Rattle.txn_types.specs.Order.{lsid_cmp}
 use Rattle.txn_types.specs.declared.event.Happening.{Happening}
 use Rattle.txn_types.specs.declared.event.Happening.TheVariants as what

@@ -1,12 +1,20 @@
-//! A shard's core: what an event changes, what is to be made durable, and what is given out. Its state, its time and how
-//! it starts have code, and so has the trait of its nodes; the rules of messages have definitions and laws.
+//! A shard's core: what an event changes, what is to be made durable, and what is given out.
 #![tactic(auto)]
 
-mod home;
+mod coordinating;
+mod deciding;
+mod delivering;
+mod given;
 mod journalled;
 pub mod laws;
+mod memory;
+mod participating;
+mod saving;
 mod shard;
+mod stating;
+mod step;
 mod time;
 
 pub use journalled::Journalled;
 pub use shard::Shard;
+pub use step::{Outbox, Step, StepErr};

@@ -1,13 +1,15 @@
 ghost use Rattle.std.specs.Prelude.{◌≡◌, Some};
+ghost use Rattle.participant.specs.Part.{open_of};
+ghost use Rattle.participant.specs.Statement.{own_of};
 ghost use Rattle.shard_core.specs.NodeStep.{core_of};
 ghost use Rattle.shard_core.specs.State.{resolved_of};
 
-use crate::home::Home;
 use coordinator::Coord;
+use participant::Participant;
 use shard_image::Image;
 use std::alloc::Global;
 use std::marker::Model;
-use txn_types::{HybridClock, Ts};
+use txn_types::{HybridClock, Lsid, Ts, Write};
 
 /// A shard's core: the greatest wall that it has met, in seconds since 1970; its clock; its part in transactions; those
 /// that it coordinates; and the count of faults of its disk, where it was stopped.
@@ -16,7 +18,7 @@ pub struct Shard {
     pub(crate) alloc: Global,
     pub(crate) wall: u32,
     pub(crate) clock: HybridClock,
-    pub(crate) part: Home,
+    pub(crate) part: Participant,
     pub(crate) coord: Coord,
     pub(crate) stopped: Option<u64>,
 }
@@ -55,7 +57,7 @@ impl Shard {
                 last: ceiling,
                 ceiling,
             },
-            part: Home::of(alloc, shard, boot, store, sessions, pending),
+            part: Participant::of(alloc, shard, boot, store, sessions, pending),
             coord,
             stopped: None,
         }
@@ -73,6 +75,13 @@ impl Shard {
         ensures { result ≡ self.now.part.boot }
     {
         self.part.boot()
+    }
+
+    /// What the session's live transaction has written so far, in its order; nothing, where none is live.
+    pub fn writes_of<'a>(&'a self, lsid: &Lsid) -> &'a [Write]
+        ensures { result.now ≡ own_of (open_of self.now.part lsid.now) }
+    {
+        self.part.writes_of(lsid)
     }
 
     /// The clock, or one below the least prepare timestamp that stands: no later commit is at or below it. It goes

@@ -18,11 +18,11 @@ invariant_of-self g c =
     let no_hand : c.self.inside.hand ≡ None = none_of c.self.inside.hand (sym c.self.invariant.failed ∙ was_open) in
     let tells_old : IsTrue (d.tells new.disk) → IsTrue (d.tells old.disk) = λ tells. still _ _ (sym c.append.ensures.tells) tells in
     let held : IsTrue (d.tells new.disk) → AreOf new.frames c.push_reserved.new.self.items =
-        λ tells.
-        subst (λ (l : List Rec). AreOf new.frames l) (sym c.push_reserved.ensures.items) (
-        subst (λ (l : List (List ℕ)). AreOf l (recs ++ c.args.rec ∷ [])) (sym (c.in-Ok.ensures.acknowledged (tells_old tells)))
-        (are_push old.frames recs c.record_at.result.now c.args.rec (c.self.invariant.held (tells_old tells) was_open) (inr c.record_at.ensures.bytes))
-        ) in
+    λ tells.
+    subst (λ (l : List Rec). AreOf new.frames l) (sym c.push_reserved.ensures.items) (
+    subst (λ (l : List (List ℕ)). AreOf l (recs ++ c.args.rec ∷ [])) (sym (c.in-Ok.ensures.acknowledged (tells_old tells)))
+    (are_push old.frames recs c.record_at.result.now c.args.rec (c.self.invariant.held (tells_old tells) was_open) (inr c.record_at.ensures.bytes))
+    ) in
     record {
       failed = c.append.ensures.closes ∙ ap is_err c.in-Ok.is ∙ sym was_open ∙ c.self.invariant.failed;
       held = λ tells closed. held tells;
