@@ -1,4 +1,14 @@
+pub mod Holding
 pub mod Places
 pub mod Lasting
 pub mod Beside
 pub mod Closing
+pub mod Ends
+pub mod Preparing
+pub mod Opening
+pub mod Stating
+pub mod Events
+pub mod Coordinated
+pub mod Ruling
+pub mod Facts
+pub mod Stepping
