@@ -19,6 +19,7 @@ use Rattle.participant.proofs.Ends.{entry_elsewhere}
 use Rattle.participant.proofs.Moving.{entry_here}
 use Rattle.participant.proofs.Tags.{lsid_self, lsid_same}
 use Rattle.part_laws.specs.Each.{Each}
+use Rattle.part_laws.proofs.Chains.{each_weaker}
 use Rattle.shard_image.specs.Image.{Image, empty_image, with_record, with_records, image_of, decided_if}
 use Rattle.shard_core.specs.State.{ShardState}
 use Rattle.shard_core.specs.Durable.{HasSession, IsDurable}
@@ -105,6 +106,15 @@ each_session P (entry ∷ entries) apart h =
     All-cons (λ (entry : Lsid × Session). P entry.0 entry.1) entry entries
     (h entry.0 entry.1 (ap (λ b. option_map (λ (e : Lsid × Session). e.1) (cond b (Some entry) (find (λ (e : Lsid × Session). same_lsid entry.0 e.0) entries))) (lsid_self entry.0)))
     (each_session P entries apart.1 (λ lsid s has. h lsid s (tail_case lsid entry entries s (same_lsid lsid entry.0) refl apart has)))
+
+-- each is found
+pub each_found : (entries : BySession Session) → AreApart entries → Each (λ (entry : Lsid × Session). entry_of entry.0 entries ≡ Some entry.1) entries
+each_found [] apart = tt
+each_found (entry ∷ entries) apart = (
+  ap (λ b. option_map (λ (e : Lsid × Session). e.1) (cond b (Some entry) (find (λ (e : Lsid × Session). same_lsid entry.0 e.0) entries))) (lsid_self entry.0),
+  each_weaker (λ (other : Lsid × Session). entry_of other.0 entries ≡ Some other.1) (λ (other : Lsid × Session). entry_of other.0 (entry ∷ entries) ≡ Some other.1)
+      (λ other has. tail_case other.0 entry entries other.1 (same_lsid other.0 entry.0) refl apart has) entries (each_found entries apart.1),
+)
 
 found_case : (P : Lsid → Session → Type 0) (lsid : Lsid) (s : Session) (entry : Lsid × Session) (entries : BySession Session) (b : Bool) → same_lsid lsid entry.0 ≡ b → P entry.0 entry.1 → (entry_of lsid entries ≡ Some s → P lsid s)
     → option_map (λ (e : Lsid × Session). e.1) (cond b (Some entry) (find (λ (e : Lsid × Session). same_lsid lsid e.0) entries)) ≡ Some s → P lsid s

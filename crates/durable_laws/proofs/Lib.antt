@@ -12,3 +12,4 @@ pub mod Coordinated
 pub mod Ruling
 pub mod Facts
 pub mod Stepping
+pub mod Parting
