@@ -91,7 +91,7 @@ rises_finished store r = (finished_survives store r).rises
 pub versions_finished : (store : Versions) (place : Place) → Rises place_cmp store → versions_of (finished store) place ≡ lasting (versions_of store place)
 versions_finished store place r = (finished_survives store r).versions place
 
-filled_finished : (store : Versions) → AreFilled (finished store)
+pub filled_finished : (store : Versions) → AreFilled (finished store)
 filled_finished store = filled_left (map (λ (key : Place × List Version). (key.0, lasting key.1)) store)
 
 pub filled_dropped : (tag : Tag) (store : Versions) → AreFilled (dropped tag store)

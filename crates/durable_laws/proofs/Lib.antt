@@ -13,3 +13,4 @@ pub mod Ruling
 pub mod Facts
 pub mod Stepping
 pub mod Parting
+pub mod Beginning

@@ -67,7 +67,7 @@ no_keys tag (key ∷ store) h =
     let both = none_case tag key (find (is_of tag) key.1) (filter_map (λ (key : Place × List Version). option_map (λ (v : Version). (key.0, v.doc)) (find (is_of tag) key.1)) store) h in
     (both.0, no_keys tag store both.1)
 
-at_looked : (P : List Version → Type 0) (place : Place) (store : Versions) → P [] → Each (λ (key : Place × List Version). P key.1) store → P (unwrap_or (looked place_cmp place store) [])
+pub at_looked : (P : List Version → Type 0) (place : Place) (store : Versions) → P [] → Each (λ (key : Place × List Version). P key.1) store → P (unwrap_or (looked place_cmp place store) [])
 at_looked P place [] nil h = nil
 at_looked P place (key ∷ store) nil h = at_case (is_eq (place_cmp place key.0)) (at_looked P place store nil h.1)
   where

@@ -1,5 +1,5 @@
 //! A law is the contract of a function with an empty body.
-ghost use Rattle.std.specs.Prelude.{◌≡◌, ◌++◌, ℕ, List};
+ghost use Rattle.std.specs.Prelude.{◌≡◌, ◌++◌, ℕ, List, [], Some};
 ghost use Rattle.txn_types.specs.declared.event.NodeAnswer.{NodeAnswer};
 ghost use Rattle.txn_types.specs.declared.event.NodeEvent.{NodeEvent};
 ghost use Rattle.journal_rec.specs.declared.record.Rec.{Rec};
@@ -8,9 +8,10 @@ ghost use Rattle.participant.specs.Sound.{IsPart};
 ghost use Rattle.shard_image.specs.Sound.{AreWritten};
 ghost use Rattle.shard_core.specs.State.{ShardState};
 ghost use Rattle.shard_core.specs.Core.{Room, core_step};
-ghost use Rattle.shard_core.specs.NodeStep.{NodeState, appends_of, joined, Failed};
+ghost use Rattle.shard_core.specs.NodeStep.{NodeState, appends_of, joined, Failed, started};
+ghost use Rattle.shard_core.specs.Durable.{AreRecordsOf};
 ghost use Rattle.durable_laws.specs.Whole.{IsWhole};
-ghost use Rattle.durable_laws.specs.Backed.{IsBacked, kept_state, lost_state};
+ghost use Rattle.durable_laws.specs.Backed.{IsBacked, kept_state, lost_state, IsFoundAgain};
 
 /// What a shard's records hold of it stays so behind each step, with all that it appends, whatever the event names; and
 /// the writes of what it appends rise.
@@ -30,4 +31,13 @@ pub fn a_failed_append_is_durable()
 /// A part that is whole is of one piece as the definition of a part asks.
 pub fn a_whole_part_is_one()
     ensures { (p : Part) (last : ℕ) → IsWhole p last → IsPart p }
+{}
+
+/// A start finds the shard again: from records that hold a state it leaves what outlives a stop of that state, with the
+/// next boot and the clock at the last ceiling. Whatever records it takes, its own hold its state, and its part is
+/// whole. It takes an empty journal.
+pub fn a_start_is_durable()
+    ensures found { (shard : ℕ) (recs : List Rec) (faults : ℕ) (n : NodeState) (s : ShardState) → AreRecordsOf recs s → started shard recs faults ≡ Some n → IsFoundAgain s n.core }
+    ensures backed { (shard : ℕ) (recs : List Rec) (faults : ℕ) (n : NodeState) → AreWritten recs → started shard recs faults ≡ Some n → IsBacked n.records n.core }
+    ensures first { (shard faults : ℕ) → (n : NodeState) × (started shard [] faults ≡ Some n) × IsBacked n.records n.core }
 {}
