@@ -35,25 +35,20 @@ use Rattle.shard_core.specs.State.{ShardState}
 use Rattle.shard_core.specs.Durable.{HasSession, AreRecordsOf}
 use Rattle.shard_core.specs.NodeStep.{NodeState, core_of, boot_behind, node_of, started_behind, started_if, started}
 use Rattle.shard_core.proofs.Restarting.{part_of, image_stands}
-use Rattle.durable_laws.specs.Whole.{AreFilled, AreNewestFirst, newest_commit, HasStamp, IsOver, PendingHas, IsWhole}
+use Rattle.durable_laws.proofs.Whole.{AreFilled, AreNewestFirst, newest_commit, HasStamp, IsOver, PendingHas, IsWhole}
 use Rattle.durable_laws.specs.Backed.{IsBacked, IsFoundAgain}
 use Rattle.durable_laws.proofs.Holding.{HoldsPart, Backs}
 use Rattle.durable_laws.proofs.Places.{below_committed, lasting, lasting_rest}
 use Rattle.durable_laws.proofs.Lasting.{stores_same, rises_finished, versions_finished, filled_finished}
 use Rattle.durable_laws.proofs.Opening.{at_looked}
-use Rattle.durable_laws.proofs.Facts.{IsFine, image_fine, image_append, fine_record, from_backs, one_of_each}
+use Rattle.durable_laws.proofs.Facts.{IsFine, image_fine, image_append, fine_record}
+use Rattle.durable_laws.proofs.Backing.{from_backs}
+use Rattle.durable_laws.proofs.Tables.{prepared_is}
 use Rattle.durable_laws.proofs.Ends.{some_has}
 
 each_of_all : {X : Type 0} (P Q : X → Type 0) → ((x : X) → P x → Q x) → (xs : List X) → AllByRecursion P xs → Each Q xs
 each_of_all P Q f [] h = tt
 each_of_all P Q f (x ∷ xs) h = (f x h.0, each_of_all P Q f xs h.1)
-
-prepared_is : (st : SessionState) (at : ℕ) → prepared_at st ≡ Some at → (coordinator : ℕ) × (st ≡ state.Prepared at coordinator)
-prepared_is state.Live at h = cc
-prepared_is (state.Prepared since coordinator) at h = let same : since ≡ at = cc in (coordinator, ap (λ n. state.Prepared n coordinator) same)
-prepared_is (state.Committed since) at h = cc
-prepared_is state.Released at h = cc
-prepared_is (state.Aborted why read_at) at h = cc
 
 held_of : (P : Pending → Type 0) (o : Option Pending) → IsSomeAnd o P → (q : Pending) × (o ≡ Some q) × P q
 held_of P None h = absurd h

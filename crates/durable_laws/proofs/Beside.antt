@@ -22,7 +22,7 @@ use Rattle.part_laws.proofs.Chains.{every, each_weaker, each_filter, times_kept,
 use Rattle.part_laws.proofs.Opening.{stamps-restamped, some_of}
 use Rattle.part_laws.proofs.Owners.{one_owner, not_own, topped, own-topped_other}
 use Rattle.part_laws.proofs.Stores.{versions-dropped, versions-stamped, versions-with_writes, rises-stamped, rises-with_writes, topped_by}
-use Rattle.durable_laws.specs.Whole.{AreFilled, AreNewestFirst, newest_commit, HasStamp, IsOver}
+use Rattle.durable_laws.proofs.Whole.{AreFilled, AreNewestFirst, newest_commit, HasStamp, IsOver}
 use Rattle.durable_laws.proofs.Places.{newest_chain, newest_dropped, newest_stamped, newest_topped, MayStamp, none_restamped}
 use Rattle.durable_laws.proofs.Lasting.{filled_left, filled_dropped, filled_stamped, filled_writes}
 

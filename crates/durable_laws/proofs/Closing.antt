@@ -26,7 +26,8 @@ use Rattle.part_laws.specs.Each.{Each}
 use Rattle.part_laws.proofs.Chains.{each_weaker}
 use Rattle.part_laws.proofs.Ended.{in_state}
 use Rattle.part_laws.proofs.Moving.{live_taken}
-use Rattle.durable_laws.specs.Whole.{LiveHas, PendingHas, AreApart, IsWhole}
+use Rattle.durable_laws.proofs.Whole.{LiveHas, PendingHas, IsWhole}
+use Rattle.durable_laws.specs.Backed.{AreApart}
 use Rattle.durable_laws.proofs.Beside.{Beside, over_kept}
 
 -- Sessions that stand once.

@@ -40,7 +40,7 @@ use Rattle.part_laws.proofs.Chains.{each_weaker}
 use Rattle.part_laws.proofs.Ended.{in_state}
 use Rattle.shard_image.specs.Image.{Image}
 use Rattle.shard_core.specs.Durable.{HasSession}
-use Rattle.durable_laws.specs.Whole.{AreNewestFirst, newest_commit, HasStamp, IsOver, LiveHas, PendingHas, IsWhole}
+use Rattle.durable_laws.proofs.Whole.{AreNewestFirst, newest_commit, HasStamp, IsOver, LiveHas, PendingHas, IsWhole}
 use Rattle.durable_laws.proofs.Holding.{HoldsPart, behind, Left}
 use Rattle.durable_laws.proofs.Places.{MayStamp, newest_chain, behind_fall, fall_below, below_more}
 use Rattle.durable_laws.proofs.Lasting.{finished_end, finished_own, finished_decided, finished_drop}

@@ -42,7 +42,7 @@ use Rattle.part_laws.proofs.Chains.{each_weaker, each_both}
 use Rattle.part_laws.proofs.Looking.{eq_self, looked_is_found}
 use Rattle.shard_image.specs.Image.{Image}
 use Rattle.shard_core.specs.Participating.{decided_record}
-use Rattle.durable_laws.specs.Whole.{IsWhole}
+use Rattle.durable_laws.proofs.Whole.{IsWhole}
 use Rattle.durable_laws.proofs.Holding.{HoldsPart, behind, Left}
 use Rattle.durable_laws.proofs.Ends.{live_open, abort_left, release_left, commit_left, IsFrom, decide_left}
 use Rattle.durable_laws.proofs.Preparing.{prepare_left}

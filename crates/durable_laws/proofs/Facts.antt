@@ -21,11 +21,8 @@ use Rattle.participant.proofs.Tags.{lsid_self, lsid_same}
 use Rattle.part_laws.specs.Each.{Each}
 use Rattle.part_laws.proofs.Chains.{each_weaker}
 use Rattle.shard_image.specs.Image.{Image, empty_image, with_record, with_records, image_of, decided_if}
-use Rattle.shard_core.specs.State.{ShardState}
-use Rattle.shard_core.specs.Durable.{HasSession, IsDurable}
-use Rattle.durable_laws.specs.Whole.{AreApart}
-use Rattle.durable_laws.specs.Backed.{IsBacked}
-use Rattle.durable_laws.proofs.Holding.{HoldsPart, Backs}
+
+use Rattle.durable_laws.specs.Backed.{AreApart}
 use Rattle.durable_laws.proofs.Closing.{apart_with}
 use Rattle.durable_laws.proofs.Coordinated.{rises_with, rises_out}
 use Rattle.durable_laws.proofs.Ends.{behind_never}
@@ -116,52 +113,15 @@ each_found (entry ∷ entries) apart = (
       (λ other has. tail_case other.0 entry entries other.1 (same_lsid other.0 entry.0) refl apart has) entries (each_found entries apart.1),
 )
 
-found_case : (P : Lsid → Session → Type 0) (lsid : Lsid) (s : Session) (entry : Lsid × Session) (entries : BySession Session) (b : Bool) → same_lsid lsid entry.0 ≡ b → P entry.0 entry.1 → (entry_of lsid entries ≡ Some s → P lsid s)
-    → option_map (λ (e : Lsid × Session). e.1) (cond b (Some entry) (find (λ (e : Lsid × Session). same_lsid lsid e.0) entries)) ≡ Some s → P lsid s
+found_case : {A : Type 0} (P : Lsid → A → Type 0) (lsid : Lsid) (s : A) (entry : Lsid × A) (entries : BySession A) (b : Bool) → same_lsid lsid entry.0 ≡ b → P entry.0 entry.1 → (entry_of lsid entries ≡ Some s → P lsid s)
+    → option_map (λ (e : Lsid × A). e.1) (cond b (Some entry) (find (λ (e : Lsid × A). same_lsid lsid e.0) entries)) ≡ Some s → P lsid s
 found_case P lsid s entry entries true is here more has =
     let one : entry.1 ≡ s = cc in
     subst (λ l. P l s) (sym (lsid_same lsid entry.0 is)) (subst (P entry.0) one here)
 found_case P lsid s entry entries false is here more has = more has
 
-pub one_of_each : (P : Lsid → Session → Type 0) (entries : BySession Session) → All (λ (entry : Lsid × Session). P entry.0 entry.1) entries → (lsid : Lsid) (s : Session) → entry_of lsid entries ≡ Some s → P lsid s
+pub one_of_each : {A : Type 0} (P : Lsid → A → Type 0) (entries : BySession A) → All (λ (entry : Lsid × A). P entry.0 entry.1) entries → (lsid : Lsid) (s : A) → entry_of lsid entries ≡ Some s → P lsid s
 one_of_each P [] all lsid s has = cc
-one_of_each P (entry ∷ entries) all lsid s has =
-    found_case P lsid s entry entries (same_lsid lsid entry.0) refl (All-head (λ (entry : Lsid × Session). P entry.0 entry.1) entry entries all)
-    (one_of_each P entries (All-tail (λ (entry : Lsid × Session). P entry.0 entry.1) entry entries all) lsid s) has
-
--- Both ways.
-
-pub to_backs : (recs : List Rec) (s : ShardState) → IsBacked recs s → Backs (image_of recs) s
-to_backs recs s b =
-    let i : Image = image_of recs in
-    let fine = image_fine recs in
-    let d : IsDurable i s = b.durable in
-    record {
-      whole = b.whole;
-      holds = record {
-        boot = d.boot;
-        store = d.store;
-        pending = d.pending;
-        sessions = λ lsid recorded has. (one_of_each (HasSession s.part) i.sessions.entries d.sessions lsid recorded has, fine.never lsid recorded has);
-      };
-      ceiling = d.ceiling;
-      rises = b.rises;
-      plans = d.coord;
-    }
-
-pub from_backs : (recs : List Rec) (s : ShardState) → Backs (image_of recs) s → IsBacked recs s
-from_backs recs s b =
-    let i : Image = image_of recs in
-    let fine = image_fine recs in
-    record {
-      whole = b.whole;
-      rises = b.rises;
-      durable = record {
-        boot = b.holds.boot;
-        ceiling = b.ceiling;
-        store = b.holds.store;
-        pending = b.holds.pending;
-        coord = b.plans;
-        sessions = each_session (HasSession s.part) i.sessions.entries fine.apart (λ lsid recorded has. (b.holds.sessions lsid recorded has).0);
-      };
-    }
+one_of_each {A} P (entry ∷ entries) all lsid s has =
+    found_case P lsid s entry entries (same_lsid lsid entry.0) refl (All-head (λ (entry : Lsid × A). P entry.0 entry.1) entry entries all)
+    (one_of_each P entries (All-tail (λ (entry : Lsid × A). P entry.0 entry.1) entry entries all) lsid s) has

@@ -13,7 +13,7 @@ use Rattle.shard_image.specs.Image.{Image, with_record}
 use Rattle.shard_image.specs.Sound.{IsWritten}
 use Rattle.shard_core.specs.State.{ShardState}
 use Rattle.shard_core.specs.Durable.{HasSession, plans_of}
-use Rattle.durable_laws.specs.Whole.{IsWhole}
+use Rattle.durable_laws.proofs.Whole.{IsWhole}
 
 -- what outlives a stop of the part is in it; it has no live transaction
 pub record HoldsPart (i : Image) (p : Part) : Type 0 where

@@ -22,7 +22,7 @@ use Rattle.part_laws.specs.Start.{Survives}
 use Rattle.part_laws.proofs.Looking.{rows_same}
 use Rattle.part_laws.proofs.Starting.{finished_survives}
 use Rattle.part_laws.proofs.Stores.{versions_is, versions-dropped, versions-stamped, versions-with_writes, rises-stamped, rises-with_writes, topped_by}
-use Rattle.durable_laws.specs.Whole.{AreFilled, HasStamp}
+use Rattle.durable_laws.proofs.Whole.{AreFilled, HasStamp}
 use Rattle.durable_laws.proofs.Places.{lasting, lasting_without, lasting_drop, lasting_topped, lasting_stamped, lasting_own}
 
 -- Keys that have versions.

@@ -1,3 +1,4 @@
+pub mod Whole
 pub mod Holding
 pub mod Places
 pub mod Lasting
@@ -11,6 +12,8 @@ pub mod Events
 pub mod Coordinated
 pub mod Ruling
 pub mod Facts
-pub mod Stepping
+pub mod Tables
 pub mod Parting
+pub mod Backing
+pub mod Stepping
 pub mod Beginning

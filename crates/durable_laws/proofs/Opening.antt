@@ -47,7 +47,7 @@ use Rattle.part_laws.proofs.Owners.{not_own, topped, own-topped}
 use Rattle.part_laws.proofs.Sets.{wrote_at-write_set}
 use Rattle.part_laws.proofs.Stores.{versions_is, versions-with_writes, versions-dropped, topped_by}
 use Rattle.shard_image.specs.Image.{Image}
-use Rattle.durable_laws.specs.Whole.{newest_commit, HasStamp, IsOver, LiveHas, PendingHas, IsWhole}
+use Rattle.durable_laws.proofs.Whole.{newest_commit, HasStamp, IsOver, LiveHas, PendingHas, IsWhole}
 use Rattle.durable_laws.proofs.Holding.{HoldsPart, behind, Left}
 use Rattle.durable_laws.proofs.Beside.{Beside, IsFree, beside_write, commits_dropped, commits_topped, beside_same}
 use Rattle.durable_laws.proofs.Closing.{live_kept, pending_kept, apart_with}

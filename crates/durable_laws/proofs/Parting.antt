@@ -6,7 +6,7 @@ use Rattle.std.specs.Cmp.{IsTotalOrder}
 use Rattle.std.specs.Ordering.{is_eq, ordering_reverse}
 use Rattle.std.specs.declared.cmp.Ordering.{Ordering}
 use Rattle.std.specs.declared.cmp.Ordering.TheVariants.{Less}
-use Rattle.std.proofs.lemmas.List.Elements.{All-nil, All-cons}
+use Rattle.std.proofs.lemmas.List.Elements.{All-nil, All-cons, All-head, All-tail}
 use Rattle.std.proofs.lemmas.Map.Lookups.{CmpEqualImpliesEq}
 use Rattle.bson_core.specs.Fields.{Document}
 use Rattle.txn_types.specs.BySession.{BySession}
@@ -39,10 +39,15 @@ use Rattle.part_laws.specs.Chain.{own_at}
 use Rattle.part_laws.proofs.Chains.{each_weaker, each_both}
 use Rattle.part_laws.proofs.Looking.{eq_self, eq_exact, looked_below, rows_same}
 use Rattle.part_laws.proofs.Stores.{versions_is}
-use Rattle.durable_laws.specs.Whole.{AreFilled, AreNewestFirst, newest_commit, HasStamp, LiveHas, PendingHas, IsWhole}
+use Rattle.durable_laws.proofs.Whole.{AreFilled, AreNewestFirst, newest_commit, HasStamp, LiveHas, PendingHas, IsWhole}
 use Rattle.durable_laws.proofs.Ends.{live_open}
 use Rattle.durable_laws.proofs.Events.{all_live}
-use Rattle.durable_laws.proofs.Facts.{each_session, each_found}
+use Rattle.durable_laws.specs.Backed.{AreApart}
+use Rattle.durable_laws.proofs.Facts.{each_session, each_found, one_of_each}
+use Rattle.durable_laws.proofs.Opening.{at_looked}
+use Rattle.durable_laws.proofs.Tables.{prepared_is}
+use Rattle.participant.specs.Stands.{Stands}
+use Rattle.part_laws.proofs.Opening.{some_of}
 
 pub all_of_each : {X : Type 0} (P Q : X → Type 0) → ((x : X) → P x → Q x) → (xs : List X) → Each P xs → All Q xs
 all_of_each P Q f [] h = All-nil Q
@@ -210,3 +215,108 @@ whole_is_part p last w =
       sessions = each_session (λ lsid s. HasIts p lsid s s.state × IsOnce p lsid s) p.sessions.entries w.apart
           (λ lsid s there. (its_case p last lsid s s.state refl w there, λ so. none_elsewhere p last lsid s p.sessions.entries w there so (each_found p.sessions.entries w.apart)));
     }
+
+-- And the other way.
+
+each_all : {X : Type 0} (P Q : X → Type 0) → ((x : X) → P x → Q x) → (xs : List X) → All P xs → Each Q xs
+each_all P Q f [] h = tt
+each_all P Q f (x ∷ xs) h = (f x (All-head P x xs h), each_all P Q f xs (All-tail P x xs h))
+
+versions_filled : (key : Place × List Version) (V : List Version) → key.1 ≡ V → AreVersions V → has_versions key ≡ true
+versions_filled key [] is h = absurd h
+versions_filled key (v ∷ V) is h = ap (λ (W : List Version). is_some (first W)) is
+
+newest_versions : (V : List Version) → AreVersions V → AreNewestFirst V
+newest_versions [] h = tt
+newest_versions (v ∷ V) h = h
+
+module _ (store : Versions) (sound : IsStore store) where
+  store_filled : AreFilled store
+  store_filled = each_all (λ (key : Place × List Version). AreVersions key.1) (λ (key : Place × List Version). has_versions key ≡ true) (λ key h. versions_filled key key.1 refl h) store sound.versions
+
+  store_newest : (place : Place) → AreNewestFirst (versions_of store place)
+  store_newest place =
+      subst AreNewestFirst (sym (versions_is store place))
+      (at_looked AreNewestFirst place store tt (each_all (λ (key : Place × List Version). AreVersions key.1) (λ (key : Place × List Version). AreNewestFirst key.1) (λ key h. newest_versions key.1 h) store sound.versions))
+
+  stamped_at : (tag : Tag) (stamp : Stamp) → AreStamped tag stamp store → (place : Place) → Each (HasStamp tag stamp) (versions_of store place)
+  stamped_at tag stamp all place =
+      subst (Each (HasStamp tag stamp)) (sym (versions_is store place))
+      (at_looked (Each (HasStamp tag stamp)) place store tt
+      (each_all (λ (key : Place × List Version). All (λ version. is_of tag version ≡ true → version.stamp ≡ stamp) key.1) (λ (key : Place × List Version). Each (HasStamp tag stamp) key.1)
+      (λ key h. each_all (λ version. is_of tag version ≡ true → version.stamp ≡ stamp) (HasStamp tag stamp) (λ v s. s) key.1 h) store all))
+
+  found_key : (P : Place → Type 0) (place : Place) (doc : Option Document) (row : Place × Option Document) (rows : List (Place × Option Document)) (b : Bool) → is_eq (place_cmp place row.0) ≡ b → P row.0 → (looked place_cmp place rows ≡ Some doc → P place)
+      → cond b (Some row.1) (looked place_cmp place rows) ≡ Some doc → P place
+  found_key P place doc row rows true is here more there = subst P (sym (eq_exact place_cmp place_total place_exact place row.0 is)) here
+  found_key P place doc row rows false is here more there = more there
+
+  one_key : (P : Place → Type 0) (rows : List (Place × Option Document)) → All P (map (λ (row : Place × Option Document). row.0) rows) → (place : Place) (doc : Option Document) → looked place_cmp place rows ≡ Some doc → P place
+  one_key P [] all place doc there = cc
+  one_key P (row ∷ rows) all place doc there =
+      let keys : List Place = map (λ (row : Place × Option Document). row.0) rows in
+      found_key P place doc row rows (is_eq (place_cmp place row.0)) refl (All-head P row.0 keys all) (one_key P rows (All-tail P row.0 keys all) place doc) there
+
+  time_under : (at : ℕ) (o : Option ℕ) → IfSome o (λ commit. commit ≤ at) → unwrap_or o 0 ≤ at
+  time_under at None h = omega arith
+  time_under at (Some n) h = h
+
+  behind_keys : (tag : Tag) (at : ℕ) → AreCommittedBy at (keys_of tag store) store → (place : Place) → is_some (own_at tag (versions_of store place)) ≡ true → newest_commit (versions_of store place) ≤ at
+  behind_keys tag at free place own =
+      let there = some_of (own_at tag (versions_of store place)) own in
+      time_under at (newest store place) (one_key (λ place. IfSome (newest store place) (λ commit. commit ≤ at)) (written_by tag store) free place there.0 (written_at tag place store sound.rises ∙ there.1))
+
+module _ (p : Part) (last : ℕ) (part : IsPart p) (stands : Stands p) (reads : All (λ (entry : Lsid × Open). entry.1.read_at ≤ last) p.live) (apart : AreApart p.sessions.entries) where
+  live_of : (lsid : Lsid) (o : Open) → open_of p lsid ≡ Some o → LiveHas p.store last o
+  live_of lsid o mine =
+      let h : IsLive p lsid o = one_of_each (IsLive p) p.live part.live lsid o mine in
+      let has = has_live p lsid o stands mine in
+      let keys : map place_of o.writes ≡ keys_of o.tag p.store = has.keys ∙ ap (λ t. keys_of t p.store) (sym has.tag) in
+      let up : Ascend place_cmp (map place_of o.writes) = subst (Ascend place_cmp) (sym keys) (ascend_keys place_cmp _ (rises_written o.tag p.store part.store.rises)) in
+      let rises : Rises place_cmp (map row_of o.writes) = rises_under place_cmp place_of content_of o.writes up in
+      record {
+        reads = one_of_each (λ (l : Lsid) (a : Open). a.read_at ≤ last) p.live reads lsid o mine;
+        rises = rises_under place_cmp place_of (λ (write : Write). write) o.writes up;
+        own = λ place. sym (written_at o.tag place p.store part.store.rises) ∙ ap (looked place_cmp place) h.written ∙ wrote_looked place o.writes rises;
+        over = record {
+          stamps = stamped_at p.store part.store o.tag (Unfinished o.tag) h.stamped;
+          behind = behind_keys p.store part.store o.tag o.read_at (subst (λ places. AreCommittedBy o.read_at places p.store) keys h.free);
+        };
+      }
+
+  pending_of_part : (q : Pending) → IsPending p q → PendingHas p q
+  pending_of_part q h =
+      let st = prepared_is h.0.state h.1 h.3.state in
+      record {
+        s = h.0;
+        at = h.1;
+        coordinator = st.0;
+        session = h.2;
+        tag = h.3.tag;
+        state = st.1;
+        later = h.3.later;
+        keys = h.3.keys;
+        over = record {
+          stamps = stamped_at p.store part.store q.tag (Prepared q.tag h.1) h.3.stamped;
+          behind = behind_keys p.store part.store q.tag q.read_at (subst (λ places. AreCommittedBy q.read_at places p.store) (sym h.3.keys) h.3.free);
+        };
+      }
+
+  pub part_is_whole : IsWhole p last
+  part_is_whole =
+      record {
+        stands = stands;
+        rises = part.store.rises;
+        filled = store_filled p.store part.store;
+        newest = store_newest p.store part.store;
+        lives = part.rises;
+        live = live_of;
+        pending = each_all (IsPending p) (PendingHas p) pending_of_part p.pending part.pending;
+        prepared = λ lsid s at coordinator there is.
+            let its = one_of_each (λ lsid s. HasIts p lsid s s.state × IsOnce p lsid s) p.sessions.entries part.sessions lsid s there in
+            subst (HasIts p lsid s) is its.0;
+        apart = apart;
+      }
+
+pub whole_reads : (p : Part) (last : ℕ) → IsWhole p last → All (λ (entry : Lsid × Open). entry.1.read_at ≤ last) p.live
+whole_reads p last w = all_of_each (λ (entry : Lsid × Open). open_of p entry.0 ≡ Some entry.1) (λ (entry : Lsid × Open). entry.1.read_at ≤ last) (λ entry mine. (w.live entry.0 entry.1 mine).reads) p.live (all_live p w.lives)

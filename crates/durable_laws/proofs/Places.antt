@@ -16,7 +16,7 @@ use Rattle.part_laws.specs.Chain.{own_at, IsCommitted, IsChain}
 use Rattle.part_laws.proofs.Chains.{each_weaker, each_filter, committed_is_not, none_found}
 use Rattle.part_laws.proofs.Owners.{committed_none, topped}
 use Rattle.part_laws.proofs.Stores.{topped_by}
-use Rattle.durable_laws.specs.Whole.{AreNewestFirst, newest_commit, HasStamp}
+use Rattle.durable_laws.proofs.Whole.{AreNewestFirst, newest_commit, HasStamp}
 
 -- Commits, newest first.
 

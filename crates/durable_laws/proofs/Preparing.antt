@@ -38,7 +38,8 @@ use Rattle.part_laws.proofs.Moving.{live_taken}
 use Rattle.part_laws.proofs.Opening.{stamps-own}
 use Rattle.part_laws.proofs.Stores.{versions-stamped}
 use Rattle.shard_image.specs.Image.{Image}
-use Rattle.durable_laws.specs.Whole.{AreNewestFirst, newest_commit, HasStamp, IsOver, LiveHas, PendingHas, AreApart, IsWhole}
+use Rattle.durable_laws.proofs.Whole.{AreNewestFirst, newest_commit, HasStamp, IsOver, LiveHas, PendingHas, IsWhole}
+use Rattle.durable_laws.specs.Backed.{AreApart}
 use Rattle.durable_laws.proofs.Holding.{HoldsPart, behind, Left}
 use Rattle.durable_laws.proofs.Places.{newest_chain}
 use Rattle.durable_laws.proofs.Lasting.{finished_own}

@@ -41,7 +41,7 @@ use Rattle.shard_core.specs.Coordinating.{asks, unless_coordinated, unless_older
 use Rattle.shard_core.specs.Rules.{ruled, from_router, router_of}
 use Rattle.shard_core.specs.Wanting.{Wanting, wanting, told_if, told_memory, may_be_told}
 use Rattle.shard_core.specs.Durable.{plans_of}
-use Rattle.durable_laws.specs.Whole.{IsWhole}
+use Rattle.durable_laws.proofs.Whole.{IsWhole}
 use Rattle.durable_laws.proofs.Holding.{HoldsPart, behind, Left, Backs}
 use Rattle.durable_laws.proofs.Coordinated.{plans_put, plans_out, plans_same, rises_with, vote_leaves, vote_decides, record_decides, rises_voted, rises_acked, last_ack, other_ack}
 use Rattle.durable_laws.proofs.Ends.{abort_left}

@@ -45,7 +45,7 @@ use Rattle.part_laws.proofs.Writing.{free_of}
 use Rattle.part_laws.proofs.Ended.{in_state}
 use Rattle.shard_image.specs.Image.{Image}
 use Rattle.shard_core.specs.Durable.{HasSession}
-use Rattle.durable_laws.specs.Whole.{newest_commit, IsWhole}
+use Rattle.durable_laws.proofs.Whole.{newest_commit, IsWhole}
 use Rattle.durable_laws.proofs.Holding.{HoldsPart, behind, Left}
 use Rattle.durable_laws.proofs.Beside.{IsFree, commits_dropped}
 use Rattle.durable_laws.proofs.Lasting.{finished_end, finished_writes}

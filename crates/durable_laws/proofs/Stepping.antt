@@ -9,7 +9,7 @@ use Rattle.txn_types.specs.declared.event.NodeAnswer.TheVariants as answer
 use Rattle.txn_types.specs.declared.event.NodeEvent.{NodeEvent}
 use Rattle.txn_types.specs.declared.message.Envelope.{Envelope}
 use Rattle.txn_types.specs.declared.node.Lsid.{Lsid}
-use Rattle.version_store.specs.Versions.{Versions}
+use Rattle.version_store.specs.Versions.{Versions, finished}
 use Rattle.journal_rec.specs.declared.record.Rec.{Rec}
 use Rattle.journal_rec.specs.declared.record.Rec.TheVariants as rec
 use Rattle.participant.specs.declared.said.Open.{Open}
@@ -24,11 +24,12 @@ use Rattle.shard_core.specs.Rules.{ruled}
 use Rattle.shard_core.specs.Wanting.{wanting, Wanting, told_if, told_memory, may_be_told}
 use Rattle.shard_core.specs.Core.{Room, Ample, Scarce, Short, CoreStep, core_step, step_if, stepped, stays, entered, happened, scarce, running_step, stopped_step}
 use Rattle.shard_core.specs.NodeStep.{NodeState, ceiling_append, record_append, appends_of, joined, Failed}
-use Rattle.durable_laws.specs.Whole.{LiveHas, IsWhole}
-use Rattle.durable_laws.specs.Backed.{IsBacked, at_ceiling, kept_state, lost_state}
+use Rattle.durable_laws.proofs.Whole.{LiveHas, IsWhole}
+use Rattle.durable_laws.specs.Backed.{IsShard, IsBacked, at_ceiling, kept_state, lost_state}
 use Rattle.durable_laws.proofs.Holding.{HoldsPart, behind, Left, Backs}
 use Rattle.durable_laws.proofs.Events.{expire_kept}
-use Rattle.durable_laws.proofs.Facts.{image_append, to_backs, from_backs}
+use Rattle.durable_laws.proofs.Facts.{image_append}
+use Rattle.durable_laws.proofs.Backing.{shard_whole, backs_shard, to_backs, from_backs}
 use Rattle.durable_laws.proofs.Ruling.{BacksRuled, with_left, ruled_backed, told_backed}
 
 -- A clock that goes on.
@@ -236,3 +237,23 @@ fault_is_backed old e room a new f b =
     from_backs (new.records ++ new.hand) (lost_state old.core o f.rest)
         (subst (λ (x : List Rec). Backs (image_of x) (lost_state old.core o f.rest)) (sym (with_hand old.records (joined f.kept) f.lost new.records new.hand f.records f.hand))
         (subst (λ (x : Image). Backs x (lost_state old.core o f.rest)) (sym (image_append old.records (joined f.kept ++ f.lost))) fronts.1)))
+
+-- Without records: those of a state that had none but this one.
+
+image_like : ShardState → Image
+image_like s =
+    record { boot = s.part.boot; ceiling = s.clock.ceiling; store = finished s.part.store; sessions = record { limit = 0; entries = [] }; pending = s.part.pending; coord = s.coord; count = 0; greatest = 0 }
+
+like_backs : (s : ShardState) → IsShard s → Backs (image_like s) s
+unfolding image_like
+like_backs s h =
+    record {
+      whole = shard_whole s h;
+      holds = record { boot = refl; store = refl; pending = refl; sessions = λ lsid recorded has. cc };
+      ceiling = refl;
+      rises = h.rises;
+      plans = refl;
+    }
+
+pub step_is_shard : (room : Room) (s : ShardState) (e : NodeEvent) → IsShard s → IsShard (core_step room s e).core
+step_is_shard room s e h = backs_shard _ (core_step room s e).core (step_backed room (image_like s) s e (like_backs s h)).0

@@ -1,18 +1,35 @@
 -- A shard's state that its records hold.
-use Rattle.std.specs.Prelude.{◌≡◌, ◌+◌, ℕ, List, [], ◌∷◌, None, All, unwrap_or}
-use Rattle.txn_types.specs.Order.{tag_cmp}
+use Rattle.std.specs.Prelude.{◌≡◌, ◌≤◌, ◌+◌, ℕ, false, List, [], ◌∷◌, None, All, unwrap_or}
+use Rattle.txn_types.specs.BySession.{BySession}
+use Rattle.txn_types.specs.Order.{same_lsid, tag_cmp}
 use Rattle.txn_semantics.specs.Keyed.{Rises}
+use Rattle.session_table.specs.declared.session.Session.{Session}
 use Rattle.version_store.specs.Versions.{finished}
 use Rattle.journal_rec.specs.declared.record.Rec.{Rec}
+use Rattle.participant.specs.Sound.{IsPart}
+use Rattle.participant.specs.Stands.{Stands}
+use Rattle.part_laws.specs.Each.{Each}
 use Rattle.shard_core.specs.State.{ShardState}
 use Rattle.shard_core.specs.Core.{CoreStep}
 use Rattle.shard_core.specs.Durable.{plans_of, HasSession, AreRecordsOf}
-use Rattle.durable_laws.specs.Whole.{IsWhole}
 
--- the part is whole, what is coordinated stands by tag, and the records hold the state
-pub record IsBacked (recs : List Rec) (s : ShardState) : Type 0 where
-  pub whole : IsWhole s.part s.clock.last
+-- no session stands twice
+abbrev pub AreApart : BySession Session → Type 0
+AreApart [] = Unit {0}
+AreApart (entry ∷ entries) = Each (λ other. same_lsid entry.0 other.0 ≡ false) entries × AreApart entries
+
+-- the part is of one piece and each of its sessions has what its state says; a live transaction reads at or below the
+-- clock's last time; and what is coordinated stands by tag
+pub record IsShard (s : ShardState) : Type 0 where
+  pub part : IsPart s.part
+  pub stands : Stands s.part
+  pub reads : All (λ entry. entry.1.read_at ≤ s.clock.last) s.part.live
+  pub apart : AreApart s.part.sessions.entries
   pub rises : Rises tag_cmp s.coord
+
+-- and the records hold it
+pub record IsBacked (recs : List Rec) (s : ShardState) : Type 0 where
+  pub shard : IsShard s
   pub durable : AreRecordsOf recs s
 
 -- Where an append fails.

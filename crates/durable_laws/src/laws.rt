@@ -3,15 +3,18 @@ ghost use Rattle.std.specs.Prelude.{◌≡◌, ◌++◌, ℕ, List, [], Some};
 ghost use Rattle.txn_types.specs.declared.event.NodeAnswer.{NodeAnswer};
 ghost use Rattle.txn_types.specs.declared.event.NodeEvent.{NodeEvent};
 ghost use Rattle.journal_rec.specs.declared.record.Rec.{Rec};
-ghost use Rattle.participant.specs.Part.{Part};
-ghost use Rattle.participant.specs.Sound.{IsPart};
 ghost use Rattle.shard_image.specs.Sound.{AreWritten};
 ghost use Rattle.shard_core.specs.State.{ShardState};
 ghost use Rattle.shard_core.specs.Core.{Room, core_step};
 ghost use Rattle.shard_core.specs.NodeStep.{NodeState, appends_of, joined, Failed, started};
 ghost use Rattle.shard_core.specs.Durable.{AreRecordsOf};
-ghost use Rattle.durable_laws.specs.Whole.{IsWhole};
-ghost use Rattle.durable_laws.specs.Backed.{IsBacked, kept_state, lost_state, IsFoundAgain};
+ghost use Rattle.durable_laws.specs.Backed.{IsShard, IsBacked, kept_state, lost_state, IsFoundAgain};
+
+/// A shard's part stays of one piece behind each step, whatever the event names: statement, commit, preparation, decision,
+/// abort, recovery, expiry, or want of memory that is told.
+pub fn a_step_keeps_its_part()
+    ensures { (room : Room) (s : ShardState) (e : NodeEvent) → IsShard s → IsShard (core_step room s e).core }
+{}
 
 /// What a shard's records hold of it stays so behind each step, with all that it appends, whatever the event names; and
 /// the writes of what it appends rise.
@@ -26,11 +29,6 @@ pub fn a_step_is_durable()
 pub fn a_failed_append_is_durable()
     ensures { (old : NodeState) (e : NodeEvent) (room : Room) (a : NodeAnswer) (new : NodeState) (f : Failed old (core_step room old.core e) a new) → IsBacked old.records old.core
         → IsBacked new.records (kept_state old.core (core_step room old.core e) f.kept) × IsBacked (new.records ++ new.hand) (lost_state old.core (core_step room old.core e) f.rest) }
-{}
-
-/// A part that is whole is of one piece as the definition of a part asks.
-pub fn a_whole_part_is_one()
-    ensures { (p : Part) (last : ℕ) → IsWhole p last → IsPart p }
 {}
 
 /// A start finds the shard again: from records that hold a state it leaves what outlives a stop of that state, with the

@@ -20,6 +20,7 @@ use Rattle.participant.specs.Stands.{Stands}
 use Rattle.part_laws.specs.Each.{Each}
 use Rattle.part_laws.specs.Seen.{wrote_at}
 use Rattle.part_laws.specs.Chain.{own_at}
+use Rattle.durable_laws.specs.Backed.{AreApart}
 
 -- Versions.
 
@@ -65,11 +66,6 @@ pub record PendingHas (p : Part) (q : Pending) : Type 0 where
   pub later : q.read_at < at
   pub keys : keys_of q.tag p.store ≡ q.keys
   pub over : IsOver p.store q.tag (Prepared q.tag at) q.read_at
-
--- no session stands twice
-abbrev pub AreApart : BySession Session → Type 0
-AreApart [] = Unit {0}
-AreApart (entry ∷ entries) = Each (λ other. same_lsid entry.0 other.0 ≡ false) entries × AreApart entries
 
 -- a shard's part at a clock's last time
 pub record IsWhole (p : Part) (last : ℕ) : Type 0 where
