@@ -1,13 +1,12 @@
 -- A shard that its records hold, in the definitions' words and place by place.
-use Rattle.std.proofs.Common.{◌≡◌, List, All}
-use Rattle.txn_types.specs.declared.node.Lsid.{Lsid}
+use Rattle.std.proofs.Common.{List}
 use Rattle.journal_rec.specs.declared.record.Rec.{Rec}
 use Rattle.shard_image.specs.Image.{Image, image_of}
 use Rattle.shard_core.specs.State.{ShardState}
 use Rattle.shard_core.specs.Durable.{HasSession, IsDurable}
 use Rattle.durable_laws.specs.Backed.{IsShard, IsBacked}
 use Rattle.durable_laws.proofs.Whole.{IsWhole}
-use Rattle.durable_laws.proofs.Holding.{HoldsPart, Backs}
+use Rattle.durable_laws.proofs.Holding.{Backs}
 use Rattle.durable_laws.proofs.Facts.{image_fine, each_session, one_of_each}
 use Rattle.durable_laws.proofs.Parting.{whole_is_part, whole_reads, part_is_whole}
 

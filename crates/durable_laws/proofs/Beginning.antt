@@ -1,30 +1,25 @@
 -- A shard that starts from records.
-use Rattle.std.proofs.Common.{◌≡◌, ◌≤◌, ◌<◌, ◌+◌, ◌++◌, ◌||◌, ℕ, Bool, true, false, cond, List, [], ◌∷◌, find, filter, map, Option, Some, None, IsSomeAnd, IfSome, inl, option_map, option_and_then, unwrap_or, refl, ap, subst, ◌∙◌, sym, arith, nat_lt, if◌then◌else◌}
+use Rattle.std.proofs.Common.{◌≡◌, ◌≤◌, ◌+◌, ◌++◌, ◌||◌, ℕ, Bool, true, false, cond, List, [], ◌∷◌, find, Option, Some, None, IsSomeAnd, IfSome, inl, option_map, option_and_then, unwrap_or, refl, ap, subst, ◌∙◌, sym, arith, nat_lt, if◌then◌else◌}
 use Rattle.std.specs.List.{AllByRecursion, list_any, filter_map, cons_option}
 use Rattle.std.specs.Option.{is_some}
 use Rattle.txn_types.specs.Order.{same_tag}
 use Rattle.txn_types.specs.declared.names.Tag.{Tag}
 use Rattle.txn_types.specs.declared.node.Lsid.{Lsid}
-use Rattle.txn_semantics.specs.Keyed.{Rises}
-use Rattle.txn_semantics.specs.Writes.{Place, place_cmp}
+use Rattle.txn_semantics.specs.Writes.{Place}
 use Rattle.session_table.specs.Sessions.{Table, session_of, prepared_at}
 use Rattle.session_table.specs.declared.session.Session.{Session}
-use Rattle.session_table.specs.declared.session.SessionState.{SessionState}
 use Rattle.session_table.specs.declared.session.SessionState.TheVariants as state
 use Rattle.version_store.specs.declared.version.Pending.{Pending}
 use Rattle.version_store.specs.declared.version.Stamp.{Stamp}
 use Rattle.version_store.specs.declared.version.Stamp.TheVariants.{Unfinished, Prepared, At}
 use Rattle.version_store.specs.declared.version.Version.{Version}
-use Rattle.version_store.specs.Versions.{Versions, versions_of, finished, outlives, is_of, has_versions, first, commit_of, newest_of, writer_of, FallBelow}
+use Rattle.version_store.specs.Versions.{versions_of, finished, outlives, is_of, has_versions, first, commit_of, newest_of, writer_of}
 use Rattle.journal_rec.specs.Follows.{first_refused}
 use Rattle.journal_rec.specs.declared.record.Rec.{Rec}
 use Rattle.journal_rec.specs.declared.record.Rec.TheVariants as rec
-use Rattle.participant.specs.Part.{Part, session, is_open}
 use Rattle.participant.proofs.Keys.{of_writer}
-use Rattle.participant.proofs.Tags.{tag_same}
 use Rattle.part_laws.specs.Each.{Each}
 use Rattle.part_laws.specs.Chain.{own_at, IsCommitted}
-use Rattle.part_laws.specs.Looked.{looked}
 use Rattle.part_laws.proofs.Chains.{none_found, each_weaker, committed_is_not}
 use Rattle.part_laws.proofs.Owners.{committed_none}
 use Rattle.part_laws.proofs.Stores.{versions_is}
@@ -32,12 +27,12 @@ use Rattle.shard_image.specs.Image.{Image, with_record, image_of}
 use Rattle.shard_image.specs.Sound.{IsImage, IsHeld, IsFront, IsKey, Pends, HasIts, pending_of, prepare_time, AreWritten}
 use Rattle.shard_image.proofs.Decisions.{image_counted}
 use Rattle.shard_core.specs.State.{ShardState}
-use Rattle.shard_core.specs.Durable.{HasSession, AreRecordsOf}
-use Rattle.shard_core.specs.NodeStep.{NodeState, core_of, boot_behind, node_of, started_behind, started_if, started}
+use Rattle.shard_core.specs.Durable.{AreRecordsOf}
+use Rattle.shard_core.specs.NodeStep.{NodeState, core_of, boot_behind, node_of, started_if, started}
 use Rattle.shard_core.proofs.Restarting.{part_of, image_stands}
-use Rattle.durable_laws.proofs.Whole.{AreFilled, AreNewestFirst, newest_commit, HasStamp, IsOver, PendingHas, IsWhole}
+use Rattle.durable_laws.proofs.Whole.{AreFilled, AreNewestFirst, newest_commit, HasStamp, PendingHas, IsWhole}
 use Rattle.durable_laws.specs.Backed.{IsBacked, IsFoundAgain}
-use Rattle.durable_laws.proofs.Holding.{HoldsPart, Backs}
+use Rattle.durable_laws.proofs.Holding.{Backs}
 use Rattle.durable_laws.proofs.Places.{below_committed, lasting, lasting_rest}
 use Rattle.durable_laws.proofs.Lasting.{stores_same, rises_finished, versions_finished, filled_finished}
 use Rattle.durable_laws.proofs.Opening.{at_looked}
@@ -227,7 +222,7 @@ pub record IsStart (shard : ℕ) (recs : List Rec) (faults : ℕ) (n : NodeState
   pub follows : first_refused recs ≡ None
   pub node : node_of shard (recs ++ boot_behind (image_of recs) ∷ []) faults ≡ n
 
-started_case : (shard : ℕ) (recs : List Rec) (faults : ℕ) (n : NodeState) (o : Option ℕ) → first_refused recs ≡ o → started_if shard recs faults o ≡ Some n → IsStart shard recs faults n
+pub started_case : (shard : ℕ) (recs : List Rec) (faults : ℕ) (n : NodeState) (o : Option ℕ) → first_refused recs ≡ o → started_if shard recs faults o ≡ Some n → IsStart shard recs faults n
 started_case shard recs faults n None is h = record { follows = is; node = start_is shard recs faults n (nat_lt (image_of recs).boot 4294967294) h }
 started_case shard recs faults n (Some index) is h = cc
 

@@ -1,6 +1,5 @@
 -- What a change of one transaction's versions leaves of the others.
-use Rattle.std.proofs.Common.{◌≡◌, ◌≤◌, ◌<◌, ℕ, Bool, true, false, cond, not, List, [], ◌∷◌, Option, Some, None, filter, find, map, option_map, unwrap_or, refl, ap, subst, ◌∙◌, sym, arith, if◌then◌else◌}
-use Rattle.std.specs.List.{filter_map}
+use Rattle.std.proofs.Common.{◌≡◌, ◌≤◌, ℕ, Bool, true, false, not, List, Option, Some, None, map, unwrap_or, refl, ap, subst, ◌∙◌, sym}
 use Rattle.std.specs.Option.{is_some}
 use Rattle.bson_core.specs.Fields.{Document}
 use Rattle.txn_types.specs.Order.{same_tag}
@@ -11,20 +10,20 @@ use Rattle.txn_semantics.specs.Writes.{Place, place_cmp}
 use Rattle.version_store.specs.declared.version.Stamp.{Stamp}
 use Rattle.version_store.specs.declared.version.Stamp.TheVariants.{Unfinished, Prepared, At}
 use Rattle.version_store.specs.declared.version.Version.{Version}
-use Rattle.version_store.specs.Versions.{Versions, versions_of, has_versions, first, is_some_and, is_of, writer_of, commit_of, newest_of, dropped, stamped, without, restamped, with_writes, keys_of}
+use Rattle.version_store.specs.Versions.{Versions, versions_of, is_some_and, is_of, writer_of, commit_of, dropped, stamped, without, restamped, with_writes, keys_of}
 use Rattle.participant.proofs.Keys.{of_writer, keys_dropped, keys_stamped}
-use Rattle.participant.proofs.Tags.{tag_self, tag_flip}
+use Rattle.participant.proofs.Tags.{tag_flip}
 use Rattle.participant.proofs.Written.{rises_dropped, keys_with_others}
 use Rattle.part_laws.specs.Each.{Each}
 use Rattle.part_laws.specs.Seen.{wrote_at}
 use Rattle.part_laws.specs.Chain.{own_at, IsCommitted}
-use Rattle.part_laws.proofs.Chains.{every, each_weaker, each_filter, times_kept, own-dropped_other, own-prepared, own-decided_other}
+use Rattle.part_laws.proofs.Chains.{every, each_filter, times_kept, own-dropped_other, own-prepared, own-decided_other}
 use Rattle.part_laws.proofs.Opening.{stamps-restamped, some_of}
-use Rattle.part_laws.proofs.Owners.{one_owner, not_own, topped, own-topped_other}
+use Rattle.part_laws.proofs.Owners.{one_owner, not_own, own-topped_other}
 use Rattle.part_laws.proofs.Stores.{versions-dropped, versions-stamped, versions-with_writes, rises-stamped, rises-with_writes, topped_by}
 use Rattle.durable_laws.proofs.Whole.{AreFilled, AreNewestFirst, newest_commit, HasStamp, IsOver}
 use Rattle.durable_laws.proofs.Places.{newest_chain, newest_dropped, newest_stamped, newest_topped, MayStamp, none_restamped}
-use Rattle.durable_laws.proofs.Lasting.{filled_left, filled_dropped, filled_stamped, filled_writes}
+use Rattle.durable_laws.proofs.Lasting.{filled_dropped, filled_stamped, filled_writes}
 
 -- of a place: what another transaction has there stays, and where it has something, so do the commits
 pub record StaysAt (tag : Tag) (V W : List Version) : Type 0 where

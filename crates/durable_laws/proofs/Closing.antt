@@ -1,14 +1,13 @@
 -- A part behind the end of a transaction.
-use Rattle.std.proofs.Common.{◌≡◌, ◌≤◌, ◌<◌, ℕ, Bool, true, false, cond, not, List, [], ◌∷◌, Option, Some, None, filter, find, map, option_map, refl, ap, subst, ◌∙◌, sym, arith, ◌||◌, if◌then◌else◌}
+use Rattle.std.proofs.Common.{◌≡◌, ◌≤◌, ℕ, Bool, true, false, cond, not, List, [], ◌∷◌, Some, None, filter, refl, ap, subst, ◌∙◌, sym, arith, ◌||◌}
 use Rattle.std.specs.List.{list_any}
-use Rattle.std.specs.Option.{is_some}
 use Rattle.txn_types.specs.BySession.{BySession, entry_of, with_entry}
 use Rattle.txn_types.specs.Order.{same_tag, same_lsid, lsid_cmp}
 use Rattle.txn_types.specs.declared.names.Tag.{Tag}
 use Rattle.txn_types.specs.declared.node.Lsid.{Lsid}
 use Rattle.txn_types.proofs.Orders.{lsid_total, lsid_exact}
 use Rattle.txn_semantics.specs.Keyed.{taken_out, Rises}
-use Rattle.txn_semantics.proofs.Laying.{rises_put, rises_taken_out}
+use Rattle.txn_semantics.proofs.Laying.{rises_taken_out}
 use Rattle.session_table.specs.Sessions.{with_state, session_of}
 use Rattle.session_table.specs.declared.session.Session.{Session}
 use Rattle.session_table.specs.declared.session.SessionState.{SessionState}
@@ -21,9 +20,8 @@ use Rattle.participant.specs.Stands.{Stands}
 use Rattle.participant.proofs.Ends.{entry_elsewhere, entry_without}
 use Rattle.participant.proofs.Moving.{entry_here, of_two, one_session}
 use Rattle.participant.proofs.Statements.{has_live}
-use Rattle.participant.proofs.Tags.{tag_self, lsid_same, lsid_self, lsid_flip, tag_same}
+use Rattle.participant.proofs.Tags.{tag_self, lsid_same, lsid_flip, tag_same}
 use Rattle.part_laws.specs.Each.{Each}
-use Rattle.part_laws.proofs.Chains.{each_weaker}
 use Rattle.part_laws.proofs.Ended.{in_state}
 use Rattle.part_laws.proofs.Moving.{live_taken}
 use Rattle.durable_laws.proofs.Whole.{LiveHas, PendingHas, IsWhole}

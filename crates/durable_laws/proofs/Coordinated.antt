@@ -1,6 +1,5 @@
 -- What is coordinated, without votes and those that wait, behind each change.
-use Rattle.std.proofs.Common.{◌≡◌, ℕ, ◌&&◌, Bool, true, false, cond, List, [], ◌∷◌, map, find, Option, Some, None, is_none, option_map, Result, Ok, Err, refl, ap, subst, ◌∙◌, sym, if◌then◌else◌}
-use Rattle.std.specs.Ordering.{is_eq}
+use Rattle.std.proofs.Common.{◌≡◌, ℕ, ◌&&◌, Bool, true, false, cond, List, [], ◌∷◌, find, Option, Some, None, is_none, option_map, Result, Ok, Err, refl, ap, ◌∙◌, sym, if◌then◌else◌}
 use Rattle.txn_types.specs.Order.{same_tag, tag_cmp}
 use Rattle.txn_types.specs.declared.cause.Cause.{Cause}
 use Rattle.txn_types.specs.declared.decision.Decision.{Decision}
@@ -9,7 +8,7 @@ use Rattle.txn_types.proofs.Orders.{tag_total, tag_exact}
 use Rattle.txn_semantics.specs.Keyed.{put, taken_out, Rises}
 use Rattle.txn_semantics.proofs.Laying.{rises_put, rises_taken_out}
 use Rattle.coordinator.specs.declared.plan.Plan.{Plan}
-use Rattle.coordinator.specs.TwoPhase.{Coordinations, Coordinated, coordinated_of, with_coordinated, with_decision, with_vote, counts, behind_vote, voted, decided_by, takes_part, has_voted, is_last_ack, acked, ack_counts, with_ack, commit_by}
+use Rattle.coordinator.specs.TwoPhase.{Coordinations, Coordinated, coordinated_of, with_coordinated, with_decision, counts, behind_vote, voted, decided_by, takes_part, is_last_ack, acked, ack_counts, with_ack}
 use Rattle.coordinator.proofs.Found.{last_forgets, others_keep}
 use Rattle.participant.proofs.Tags.{tag_flip, tag_same}
 use Rattle.part_laws.specs.Looked.{looked}
@@ -54,7 +53,7 @@ plans_same tag c new coords r there same =
     let here : looked tag_cmp tag plans ≡ Some (plan_of new) = plan_looked tag coords ∙ ap (option_map plan_of) there ∙ ap Some (sym same) in
     plans_put tag new coords
     ∙ rows_same tag_cmp tag_total tag_exact (put tag_cmp tag (plan_of new) plans) plans (rises_put tag_cmp tag_total tag_exact tag (plan_of new) plans rp) rp
-      (λ key. looked-put tag_cmp tag_total tag_exact key tag (plan_of new) plans ∙ same_case tag key (plan_of new) plans (same_tag key tag) refl here)
+    (λ key. looked-put tag_cmp tag_total tag_exact key tag (plan_of new) plans ∙ same_case tag key (plan_of new) plans (same_tag key tag) refl here)
 
 pub rises_with : (tag : Tag) (c : Coordinated) (coords : Coordinations) → Rises tag_cmp coords → Rises tag_cmp (with_coordinated tag c coords)
 rises_with tag c coords r = rises_put tag_cmp tag_total tag_exact tag c coords r

@@ -1,19 +1,16 @@
 -- A live transaction's end, its commit, and the decision of a prepared one.
-use Rattle.std.proofs.Common.{◌≡◌, ◌≤◌, ◌<◌, ◌<ℤ◌, ◌⊎◌, inl, inr, ℕ, ℤ, Bool, true, false, cond, not, List, [], ◌∷◌, Option, Some, None, IsSome, IsSomeAnd, filter, find, map, option_map, unwrap_or, refl, ap, subst, ◌∙◌, sym, arith, ◌||◌, if◌then◌else◌}
+use Rattle.std.proofs.Common.{◌≡◌, ◌≤◌, ◌<◌, ◌<ℤ◌, ◌⊎◌, inl, inr, ℕ, Bool, true, false, cond, not, List, [], ◌∷◌, Option, Some, None, IsSome, IsSomeAnd, filter, find, map, option_map, unwrap_or, refl, ap, subst, ◌∙◌, sym, arith, ◌||◌}
 use Rattle.std.specs.List.{list_any, filter_map, cons_option}
 use Rattle.std.specs.Option.{is_some}
-use Rattle.txn_types.specs.BySession.{entry_of, with_entry}
-use Rattle.txn_types.specs.Order.{same_tag, same_lsid, lsid_cmp}
+use Rattle.txn_types.specs.Order.{same_tag, same_lsid}
 use Rattle.txn_types.specs.declared.cause.Cause.{Cause}
 use Rattle.txn_types.specs.declared.decision.Decision.{Decision}
 use Rattle.txn_types.specs.declared.decision.Decision.TheVariants as decision
 use Rattle.txn_types.specs.declared.message.Decide.{Decide}
 use Rattle.txn_types.specs.declared.names.Tag.{Tag}
 use Rattle.txn_types.specs.declared.node.Lsid.{Lsid}
-use Rattle.txn_types.specs.declared.write.Write.{Write}
-use Rattle.txn_semantics.specs.Keyed.{taken_out, Rises}
 use Rattle.txn_semantics.specs.Writes.{Place, place_of}
-use Rattle.session_table.specs.Sessions.{Table, session_of, with_session, with_state, prepared_at, commit_time, state_behind}
+use Rattle.session_table.specs.Sessions.{Table, session_of, with_session, prepared_at, commit_time, state_behind}
 use Rattle.session_table.specs.declared.session.Session.{Session}
 use Rattle.session_table.specs.declared.session.SessionState.{SessionState}
 use Rattle.session_table.specs.declared.session.SessionState.TheVariants as state
@@ -21,15 +18,13 @@ use Rattle.version_store.specs.declared.version.Pending.{Pending}
 use Rattle.version_store.specs.declared.version.Stamp.{Stamp}
 use Rattle.version_store.specs.declared.version.Stamp.TheVariants.{Unfinished, Prepared, At}
 use Rattle.version_store.specs.declared.version.Version.{Version}
-use Rattle.version_store.specs.Versions.{Versions, versions_of, finished, dropped, stamped, decided, with_writes, keys_of, is_of, newest_of, commit_of, first, FallBelow, Fall, StandsBefore}
-use Rattle.journal_rec.specs.declared.record.Rec.{Rec}
+use Rattle.version_store.specs.Versions.{Versions, versions_of, finished, dropped, stamped, decided, with_writes, keys_of, is_of, commit_of, first, FallBelow, StandsBefore}
 use Rattle.journal_rec.specs.declared.record.Rec.TheVariants as rec
 use Rattle.participant.specs.declared.said.Open.{Open}
 use Rattle.participant.specs.Part.{Part, session, open_of, is_open, ended, aborted}
 use Rattle.participant.specs.Decide.{decided_part, record_of}
-use Rattle.participant.specs.Stands.{Stands, StateAt, SessionAt}
+use Rattle.participant.specs.Stands.{StateAt, SessionAt}
 use Rattle.participant.proofs.Ends.{entry_elsewhere}
-use Rattle.participant.proofs.Keys.{keys_dropped, keys_stamped}
 use Rattle.participant.proofs.Moving.{entry_here, of_two, one_session, ended_stands, applying}
 use Rattle.participant.proofs.Tags.{tag_self, tag_same, lsid_same}
 use Rattle.participant.proofs.Written.{keys_gone, keys_committed}
@@ -40,8 +35,8 @@ use Rattle.part_laws.proofs.Chains.{each_weaker}
 use Rattle.part_laws.proofs.Ended.{in_state}
 use Rattle.shard_image.specs.Image.{Image}
 use Rattle.shard_core.specs.Durable.{HasSession}
-use Rattle.durable_laws.proofs.Whole.{AreNewestFirst, newest_commit, HasStamp, IsOver, LiveHas, PendingHas, IsWhole}
-use Rattle.durable_laws.proofs.Holding.{HoldsPart, behind, Left}
+use Rattle.durable_laws.proofs.Whole.{AreNewestFirst, newest_commit, HasStamp, PendingHas, IsWhole}
+use Rattle.durable_laws.proofs.Holding.{HoldsPart, Left}
 use Rattle.durable_laws.proofs.Places.{MayStamp, newest_chain, behind_fall, fall_below, below_more}
 use Rattle.durable_laws.proofs.Lasting.{finished_end, finished_own, finished_decided, finished_drop}
 use Rattle.durable_laws.proofs.Beside.{Beside, beside_same, beside_drop, beside_commit}
@@ -208,7 +203,7 @@ module _ (i : Image) (p : Part) (last : ℕ) (lsid : Lsid) (s : Session) (whole 
           boot = holds.boot;
           store = ap (λ (v : Versions). stamped s.tag (At at) (with_writes s.tag v o.writes)) holds.store
               ∙ finished_own s.tag (At at) p.store o.writes whole.rises refl (live_unfinished p last lsid s o whole mine tag) (λ place. newest_chain (versions_of p.store place) (whole.newest place))
-                (λ place. subst (λ t. own_at t (versions_of p.store place) ≡ wrote_at place o.writes) tag ((whole.live lsid o mine).own place));
+              (λ place. subst (λ t. own_at t (versions_of p.store place) ≡ wrote_at place o.writes) tag ((whole.live lsid o mine).own place));
           pending = holds.pending;
           sessions = recorded_now p q i.sessions lsid (in_state s (state.Committed at)) holds.sessions (ended_here p store lsid s (state.Committed at)) (ended_beside p store lsid s (state.Committed at)) (λ h. cc);
         };

@@ -1,5 +1,5 @@
 -- A part behind each event but a statement.
-use Rattle.std.proofs.Common.{◌≡◌, ◌≤◌, ◌<◌, ◌-◌, ◌^◌, ℕ, Bool, true, false, List, [], ◌∷◌, Option, Some, None, Result, Ok, Err, refl, ap, subst, ◌∙◌, sym, arith, max, nat_eq, nat_le, nat_lt, int_lt, if◌then◌else◌}
+use Rattle.std.proofs.Common.{◌≡◌, ◌<◌, ◌-◌, ℕ, Bool, true, false, List, [], ◌∷◌, Option, Some, None, refl, ap, subst, ◌∙◌, sym, arith, nat_eq, nat_le, nat_lt, int_lt, if◌then◌else◌}
 use Rattle.std.specs.Ordering.{is_eq, ordering_reverse}
 use Rattle.std.specs.declared.cmp.Ordering.TheVariants.{Less}
 use Rattle.txn_types.specs.Clock.{next_time, ticked, last_time}
@@ -21,12 +21,10 @@ use Rattle.txn_semantics.specs.Keyed.{AllAbove, Rises}
 use Rattle.session_table.specs.declared.session.Session.{Session}
 use Rattle.session_table.specs.declared.session.SessionState.{SessionState}
 use Rattle.session_table.specs.declared.session.SessionState.TheVariants as state
-use Rattle.journal_rec.specs.declared.record.Rec.{Rec}
-use Rattle.journal_rec.specs.declared.record.Rec.TheVariants as rec
 use Rattle.participant.specs.declared.said.Open.{Open}
 use Rattle.participant.specs.Part.{Part, session, open_of, ends_live, end_live, is_replaced}
-use Rattle.participant.specs.Commit.{Committing, commits_by, commits_writes, commits_open, commits_live, commits_own, commits_session, commit}
-use Rattle.participant.specs.Prepare.{Voting, prepares_by, prepares_open, prepares_live, prepares_own, prepares_session, prepare}
+use Rattle.participant.specs.Commit.{Committing, commits_by, commits_writes, commits_open, commits_own, commits_session, commit}
+use Rattle.participant.specs.Prepare.{Voting, prepares_by, prepares_open, prepares_own, prepares_session, prepare}
 use Rattle.participant.specs.Decide.{Deciding, decides_prepared, decides_live, decides_own, decides_session, decide}
 use Rattle.participant.specs.Abort.{aborts_own, aborts_session, abort}
 use Rattle.participant.specs.Recover.{Telling, recovers_own, recovers_none, recovers_session, recover}
@@ -43,8 +41,8 @@ use Rattle.part_laws.proofs.Looking.{eq_self, looked_is_found}
 use Rattle.shard_image.specs.Image.{Image}
 use Rattle.shard_core.specs.Participating.{decided_record}
 use Rattle.durable_laws.proofs.Whole.{IsWhole}
-use Rattle.durable_laws.proofs.Holding.{HoldsPart, behind, Left}
-use Rattle.durable_laws.proofs.Ends.{live_open, abort_left, release_left, commit_left, IsFrom, decide_left}
+use Rattle.durable_laws.proofs.Holding.{HoldsPart, Left}
+use Rattle.durable_laws.proofs.Ends.{abort_left, release_left, commit_left, IsFrom, decide_left}
 use Rattle.durable_laws.proofs.Preparing.{prepare_left}
 
 tick_case : (test : Bool) (n at last : ℕ) (start : Option ℕ) → start ≡ None → (if test then start else Some n) ≡ Some at → last < n → last < at

@@ -1,16 +1,14 @@
 -- What holds of each state of records, and a shard's state that its records hold, both ways.
-use Rattle.std.proofs.Common.{◌≡◌, ◌++◌, ℕ, Bool, true, false, cond, List, [], ◌∷◌, find, Option, Some, None, All, IsSomeAnd, option_map, refl, ap, subst, ◌∙◌, sym, if◌then◌else◌}
+use Rattle.std.proofs.Common.{◌≡◌, ◌++◌, Bool, true, false, cond, List, [], ◌∷◌, find, Option, Some, None, All, option_map, refl, ap, subst, ◌∙◌, sym}
 use Rattle.std.proofs.lemmas.List.Elements.{All-nil, All-cons, All-head, All-tail}
-use Rattle.txn_types.specs.BySession.{BySession, entry_of, with_entry}
+use Rattle.txn_types.specs.BySession.{BySession, entry_of}
 use Rattle.txn_types.specs.Order.{same_lsid, tag_cmp}
 use Rattle.txn_types.specs.declared.decision.Decision.{Decision}
-use Rattle.txn_types.specs.declared.decision.Decision.TheVariants as decision
 use Rattle.txn_types.specs.declared.names.Tag.{Tag}
 use Rattle.txn_types.specs.declared.node.Lsid.{Lsid}
 use Rattle.txn_semantics.specs.Keyed.{Rises}
 use Rattle.session_table.specs.Sessions.{Table, session_of, with_session, state_behind}
 use Rattle.session_table.specs.declared.session.Session.{Session}
-use Rattle.session_table.specs.declared.session.SessionState.{SessionState}
 use Rattle.session_table.specs.declared.session.SessionState.TheVariants as state
 use Rattle.journal_rec.specs.declared.record.Rec.{Rec}
 use Rattle.journal_rec.specs.declared.record.Rec.TheVariants as rec
@@ -21,7 +19,6 @@ use Rattle.participant.proofs.Tags.{lsid_self, lsid_same}
 use Rattle.part_laws.specs.Each.{Each}
 use Rattle.part_laws.proofs.Chains.{each_weaker}
 use Rattle.shard_image.specs.Image.{Image, empty_image, with_record, with_records, image_of, decided_if}
-
 use Rattle.durable_laws.specs.Backed.{AreApart}
 use Rattle.durable_laws.proofs.Closing.{apart_with}
 use Rattle.durable_laws.proofs.Coordinated.{rises_with, rises_out}

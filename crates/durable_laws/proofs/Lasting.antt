@@ -1,5 +1,5 @@
 -- Stores, place by place: what of them outlives a stop, behind each change.
-use Rattle.std.proofs.Common.{◌≡◌, ℕ, Bool, true, false, cond, List, [], ◌∷◌, Option, Some, None, filter, map, option_map, unwrap_or, refl, ap, subst, ◌∙◌, sym}
+use Rattle.std.proofs.Common.{◌≡◌, Bool, true, false, cond, List, [], ◌∷◌, Option, Some, None, filter, map, unwrap_or, refl, ap, ◌∙◌, sym}
 use Rattle.std.specs.Option.{is_some}
 use Rattle.std.specs.declared.cmp.Ordering.{Ordering}
 use Rattle.std.specs.declared.cmp.Ordering.TheVariants.{Less, Equal, Greater}
@@ -10,7 +10,7 @@ use Rattle.txn_semantics.specs.Keyed.{put, Rises}
 use Rattle.txn_semantics.specs.Writes.{Place, place_cmp}
 use Rattle.txn_semantics.proofs.Places.{place_total, place_exact}
 use Rattle.version_store.specs.declared.version.Stamp.{Stamp}
-use Rattle.version_store.specs.declared.version.Stamp.TheVariants.{Unfinished, Prepared, At}
+use Rattle.version_store.specs.declared.version.Stamp.TheVariants.{Unfinished}
 use Rattle.version_store.specs.declared.version.Version.{Version}
 use Rattle.version_store.specs.Versions.{Versions, versions_of, has_versions, first, outlives, finished, dropped, stamped, without, restamped, with_write, with_writes}
 use Rattle.participant.proofs.Written.{rises_dropped}
@@ -18,7 +18,6 @@ use Rattle.part_laws.specs.Each.{Each}
 use Rattle.part_laws.specs.Looked.{looked}
 use Rattle.part_laws.specs.Seen.{wrote_at}
 use Rattle.part_laws.specs.Chain.{own_at, IsChain}
-use Rattle.part_laws.specs.Start.{Survives}
 use Rattle.part_laws.proofs.Looking.{rows_same}
 use Rattle.part_laws.proofs.Starting.{finished_survives}
 use Rattle.part_laws.proofs.Stores.{versions_is, versions-dropped, versions-stamped, versions-with_writes, rises-stamped, rises-with_writes, topped_by}

@@ -17,3 +17,4 @@ pub mod Parting
 pub mod Backing
 pub mod Stepping
 pub mod Beginning
+pub mod Nodes

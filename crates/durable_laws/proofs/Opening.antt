@@ -1,58 +1,51 @@
 -- A part behind a statement that is done or refused.
-use Rattle.std.proofs.Common.{◌≡◌, ◌≤◌, ◌<◌, ◌++◌, ◌||◌, ◌&&◌, ℕ, Bool, true, false, cond, not, List, [], ◌∷◌, Option, Some, None, IsSome, IsSomeAnd, IfSome, filter, find, map, option_map, unwrap_or, refl, ap, subst, ◌∙◌, sym, arith, if◌then◌else◌}
+use Rattle.std.proofs.Common.{◌≡◌, ◌≤◌, ◌++◌, ℕ, Bool, true, false, cond, not, List, [], ◌∷◌, Option, Some, None, IfSome, find, map, option_map, unwrap_or, refl, ap, subst, ◌∙◌, sym, arith, if◌then◌else◌}
 use Rattle.std.specs.List.{list_any, filter_map, cons_option}
 use Rattle.std.specs.Option.{is_some, option_or}
 use Rattle.std.specs.Ordering.{is_eq}
 use Rattle.bson_core.specs.Fields.{Document}
-use Rattle.txn_types.specs.BySession.{BySession, entry_of, with_entry}
+use Rattle.txn_types.specs.BySession.{entry_of}
 use Rattle.txn_types.specs.Order.{same_tag, same_lsid, lsid_cmp}
-use Rattle.txn_types.specs.declared.cause.Cause.TheVariants as cause
 use Rattle.txn_types.specs.declared.message.Statement.{Statement}
 use Rattle.txn_types.specs.declared.names.Tag.{Tag}
 use Rattle.txn_types.specs.declared.node.Lsid.{Lsid}
 use Rattle.txn_types.specs.declared.write.Write.{Write}
 use Rattle.txn_types.proofs.Orders.{lsid_total, lsid_exact}
-use Rattle.txn_semantics.specs.Keyed.{put, taken_out, Rises}
-use Rattle.txn_semantics.specs.Writes.{Place, place_of, place_cmp, placed, write_set}
+use Rattle.txn_semantics.specs.Keyed.{put}
+use Rattle.txn_semantics.specs.Writes.{Place, place_of, place_cmp, write_set}
 use Rattle.txn_semantics.proofs.Laying.{rises_put}
-use Rattle.txn_semantics.proofs.Places.{place_total, place_exact}
-use Rattle.txn_semantics.proofs.Steps.{filters}
-use Rattle.session_table.specs.Sessions.{Table, session_of, with_session, prepared_at}
+use Rattle.session_table.specs.Sessions.{with_session, prepared_at}
 use Rattle.session_table.specs.declared.session.Session.{Session}
 use Rattle.session_table.specs.declared.session.SessionState.{SessionState}
 use Rattle.session_table.specs.declared.session.SessionState.TheVariants as state
 use Rattle.version_store.specs.declared.version.Pending.{Pending}
-use Rattle.version_store.specs.declared.version.Stamp.TheVariants.{Unfinished, Prepared}
+use Rattle.version_store.specs.declared.version.Stamp.TheVariants.{Unfinished}
 use Rattle.version_store.specs.declared.version.Version.{Version}
-use Rattle.version_store.specs.Versions.{Versions, versions_of, finished, dropped, without, with_writes, keys_of, is_of}
+use Rattle.version_store.specs.Versions.{Versions, versions_of, dropped, with_writes, keys_of, is_of}
 use Rattle.participant.specs.declared.said.Open.{Open}
-use Rattle.participant.specs.Part.{Part, session, open_of, is_open, elsewhere, closed, without_live, aborted}
-use Rattle.participant.specs.Statement.{own_of, writes_with, with_open, stands as stands_as}
-use Rattle.participant.specs.Stands.{Stands, StateAt, SessionAt, IsClosed, CanLeave, live_session, without_older, mine_of, mine}
+use Rattle.participant.specs.Part.{Part, session, open_of, is_open, elsewhere}
+use Rattle.participant.specs.Statement.{own_of, stands as stands_as}
+use Rattle.participant.specs.Stands.{Stands, SessionAt, IsClosed, CanLeave, live_session, without_older, mine_of, mine}
 use Rattle.participant.proofs.Elsewhere.{nowhere_else}
 use Rattle.participant.proofs.Ends.{entry_elsewhere}
 use Rattle.participant.proofs.Inserted.{ascend_keys, rises_under, Ascend}
-use Rattle.participant.proofs.Moving.{entry_here, of_two, one_session}
-use Rattle.participant.proofs.Statements.{has_live, written_part, written_stands, refused_stands, ClosedBeside}
-use Rattle.participant.proofs.Tags.{tag_self, tag_same, lsid_same, lsid_self, lsid_flip}
+use Rattle.participant.proofs.Moving.{entry_here}
+use Rattle.participant.proofs.Statements.{has_live, written_stands, refused_stands, ClosedBeside}
+use Rattle.participant.proofs.Tags.{tag_self, lsid_same, lsid_self}
 use Rattle.participant.proofs.Written.{rises_written}
 use Rattle.part_laws.specs.Each.{Each}
-use Rattle.part_laws.specs.Chain.{own_at, IsCommitted}
+use Rattle.part_laws.specs.Chain.{own_at}
 use Rattle.part_laws.specs.Looked.{looked}
 use Rattle.part_laws.specs.Seen.{wrote_at}
 use Rattle.part_laws.proofs.Chains.{each_weaker, each_filter}
 use Rattle.part_laws.proofs.Contents.{wrote_at-append}
 use Rattle.part_laws.proofs.Moving.{live_put}
-use Rattle.part_laws.proofs.Owners.{not_own, topped, own-topped}
+use Rattle.part_laws.proofs.Owners.{not_own, own-topped}
 use Rattle.part_laws.proofs.Sets.{wrote_at-write_set}
-use Rattle.part_laws.proofs.Stores.{versions_is, versions-with_writes, versions-dropped, topped_by}
-use Rattle.shard_image.specs.Image.{Image}
-use Rattle.durable_laws.proofs.Whole.{newest_commit, HasStamp, IsOver, LiveHas, PendingHas, IsWhole}
-use Rattle.durable_laws.proofs.Holding.{HoldsPart, behind, Left}
-use Rattle.durable_laws.proofs.Beside.{Beside, IsFree, beside_write, commits_dropped, commits_topped, beside_same}
+use Rattle.part_laws.proofs.Stores.{versions_is, versions-with_writes, topped_by}
+use Rattle.durable_laws.proofs.Whole.{newest_commit, HasStamp, LiveHas, PendingHas, IsWhole}
+use Rattle.durable_laws.proofs.Beside.{Beside, IsFree, beside_write, commits_topped}
 use Rattle.durable_laws.proofs.Closing.{live_kept, pending_kept, apart_with}
-use Rattle.durable_laws.proofs.Ends.{at_session, live_open, live_unfinished, abort_left}
-use Rattle.durable_laws.proofs.Lasting.{finished_end}
 
 -- A transaction without keys has no version.
 

@@ -1,16 +1,15 @@
 -- A whole part is what the definition of a part asks.
-use Rattle.std.proofs.Common.{◌≡◌, ◌≤◌, ◌<◌, ◌&&◌, ◌||◌, ℕ, Bool, true, false, cond, not, List, [], ◌∷◌, find, map, Option, Some, None, All, IsSome, IsSomeAnd, IfSome, option_map, unwrap_or, refl, ap, subst, ◌∙◌, sym, arith, if◌then◌else◌}
-use Rattle.std.specs.List.{list_any, filter_map, cons_option}
+use Rattle.std.proofs.Common.{◌≡◌, ◌≤◌, ◌&&◌, ◌||◌, ℕ, Bool, true, false, cond, not, List, [], ◌∷◌, find, map, Option, Some, None, All, IsSome, IsSomeAnd, IfSome, option_map, unwrap_or, refl, ap, subst, ◌∙◌, sym, arith, if◌then◌else◌}
+use Rattle.std.specs.List.{list_any, cons_option}
 use Rattle.std.specs.Option.{is_some, option_or}
 use Rattle.std.specs.Cmp.{IsTotalOrder}
 use Rattle.std.specs.Ordering.{is_eq, ordering_reverse}
 use Rattle.std.specs.declared.cmp.Ordering.{Ordering}
-use Rattle.std.specs.declared.cmp.Ordering.TheVariants.{Less}
 use Rattle.std.proofs.lemmas.List.Elements.{All-nil, All-cons, All-head, All-tail}
 use Rattle.std.proofs.lemmas.Map.Lookups.{CmpEqualImpliesEq}
 use Rattle.bson_core.specs.Fields.{Document}
 use Rattle.txn_types.specs.BySession.{BySession}
-use Rattle.txn_types.specs.Order.{same_tag, same_lsid, lsid_cmp}
+use Rattle.txn_types.specs.Order.{same_tag, same_lsid}
 use Rattle.txn_types.specs.declared.names.Tag.{Tag}
 use Rattle.txn_types.specs.declared.node.Lsid.{Lsid}
 use Rattle.txn_types.specs.declared.write.Write.{Write}
@@ -25,18 +24,18 @@ use Rattle.version_store.specs.declared.version.Pending.{Pending}
 use Rattle.version_store.specs.declared.version.Stamp.{Stamp}
 use Rattle.version_store.specs.declared.version.Stamp.TheVariants.{Unfinished, Prepared}
 use Rattle.version_store.specs.declared.version.Version.{Version}
-use Rattle.version_store.specs.Versions.{Versions, versions_of, is_of, newest_of, newest, content_of, written_by, keys_of, first, has_versions, AreVersions, IsStore, AreStamped, AreCommittedBy}
+use Rattle.version_store.specs.Versions.{Versions, versions_of, is_of, newest, content_of, written_by, keys_of, first, has_versions, AreVersions, IsStore, AreStamped, AreCommittedBy}
 use Rattle.participant.specs.declared.said.Open.{Open}
-use Rattle.participant.specs.Part.{Part, session, open_of, is_open, elsewhere}
-use Rattle.participant.specs.Sound.{IsLive, IsPrepared, IsPending, HasIts, IsOnce, IsPart}
+use Rattle.participant.specs.Part.{Part, session, open_of, is_open}
+use Rattle.participant.specs.Sound.{IsLive, IsPending, HasIts, IsOnce, IsPart}
 use Rattle.participant.proofs.Inserted.{ascend_keys, rises_under, Ascend}
 use Rattle.participant.proofs.Statements.{has_live}
 use Rattle.participant.proofs.Written.{rises_written}
 use Rattle.part_laws.specs.Each.{Each}
 use Rattle.part_laws.specs.Looked.{looked}
-use Rattle.part_laws.specs.Seen.{wrote_at, left_by, same_place}
+use Rattle.part_laws.specs.Seen.{wrote_at}
 use Rattle.part_laws.specs.Chain.{own_at}
-use Rattle.part_laws.proofs.Chains.{each_weaker, each_both}
+use Rattle.part_laws.proofs.Chains.{each_both}
 use Rattle.part_laws.proofs.Looking.{eq_self, eq_exact, looked_below, rows_same}
 use Rattle.part_laws.proofs.Stores.{versions_is}
 use Rattle.durable_laws.proofs.Whole.{AreFilled, AreNewestFirst, newest_commit, HasStamp, LiveHas, PendingHas, IsWhole}
@@ -137,6 +136,7 @@ keys_free tag at store r over = keys_case (written_by tag store) (each_looked pl
     time_case : (o : Option ℕ) → unwrap_or o 0 ≤ at → IfSome o (λ commit. commit ≤ at)
     time_case None h = tt
     time_case (Some n) h = h
+
     keys_case : (rows : List (Place × Option Document)) → Each (λ (row : Place × Option Document). looked place_cmp row.0 (written_by tag store) ≡ Some row.1) rows
         → All (λ place. IfSome (newest store place) (λ commit. commit ≤ at)) (map (λ (row : Place × Option Document). row.0) rows)
     keys_case [] h = All-nil (λ place. IfSome (newest store place) (λ commit. commit ≤ at))

@@ -2,18 +2,17 @@
 use Rattle.std.proofs.Common.{◌≡◌, ◌≤◌, ◌<◌, ℕ, Bool, true, false, cond, not, List, [], ◌∷◌, Option, Some, None, IsSomeAnd, filter, find, map, option_map, unwrap_or, refl, ap, subst, ◌∙◌, sym, arith, if◌then◌else◌}
 use Rattle.std.specs.List.{filter_map, cons_option}
 use Rattle.bson_core.specs.Fields.{Document}
-use Rattle.txn_types.specs.Order.{same_tag}
 use Rattle.txn_types.specs.declared.names.Tag.{Tag}
 use Rattle.txn_semantics.proofs.Steps.{filters}
 use Rattle.version_store.specs.declared.version.Stamp.{Stamp}
 use Rattle.version_store.specs.declared.version.Stamp.TheVariants.{Unfinished, Prepared, At}
 use Rattle.version_store.specs.declared.version.Version.{Version}
-use Rattle.version_store.specs.Versions.{first, is_some_and, is_of, writer_of, commit_of, without, restamped, outlives, newest_of, FallBelow, Fall, StandsBefore}
+use Rattle.version_store.specs.Versions.{first, is_of, writer_of, commit_of, without, restamped, outlives, FallBelow, Fall, StandsBefore}
 use Rattle.version_store.proofs.Chained.{same_version}
-use Rattle.participant.proofs.Tags.{tag_self, tag_flip}
+use Rattle.participant.proofs.Tags.{tag_self}
 use Rattle.part_laws.specs.Each.{Each}
 use Rattle.part_laws.specs.Chain.{own_at, IsCommitted, IsChain}
-use Rattle.part_laws.proofs.Chains.{each_weaker, each_filter, committed_is_not, none_found}
+use Rattle.part_laws.proofs.Chains.{each_filter, none_found}
 use Rattle.part_laws.proofs.Owners.{committed_none, topped}
 use Rattle.part_laws.proofs.Stores.{topped_by}
 use Rattle.durable_laws.proofs.Whole.{AreNewestFirst, newest_commit, HasStamp}
@@ -130,6 +129,7 @@ committed_fall tag (v ∷ V) h c = committed_case tag v V (is_of tag v) refl h c
     head_fall v V none (Unfinished tag) is h = let wrong : Some tag ≡ None = sym (ap writer_of is) ∙ none in cc
     head_fall v V none (Prepared tag at) is h = let wrong : Some tag ≡ None = sym (ap writer_of is) ∙ none in cc
     head_fall v V none (At at) is h = subst (λ o. IsSomeAnd o (λ commit. FallBelow commit V)) (sym (ap commit_of is)) h
+
     committed_case : (tag : Tag) (v : Version) (V : List Version) (b : Bool) → is_of tag v ≡ b → AreNewestFirst (v ∷ V) → Each IsCommitted (without tag (v ∷ V)) → Fall (without tag (v ∷ V))
     committed_case tag v V true is h c =
         let gone : without tag (v ∷ V) ≡ V = ap (λ b. cond (not b) (v ∷ without tag V) (without tag V)) is ∙ without_rest tag V (fall_committed V (behind_fall v V h)) in

@@ -1,24 +1,23 @@
 -- A live transaction's preparation.
-use Rattle.std.proofs.Common.{◌≡◌, ◌≤◌, ◌<◌, ◌++◌, ◌||◌, ℕ, Bool, true, false, cond, not, List, [], ◌∷◌, Option, Some, None, IsSome, IsSomeAnd, IfSome, filter, find, map, option_map, unwrap_or, refl, ap, subst, ◌∙◌, sym, arith, if◌then◌else◌}
-use Rattle.std.specs.List.{list_any, filter_map}
+use Rattle.std.proofs.Common.{◌≡◌, ◌≤◌, ◌<◌, ◌++◌, ◌||◌, ℕ, Bool, true, false, List, [], ◌∷◌, Some, None, IsSomeAnd, IfSome, map, unwrap_or, refl, ap, subst, ◌∙◌, sym, arith, if◌then◌else◌}
+use Rattle.std.specs.List.{list_any}
 use Rattle.std.specs.Option.{is_some}
 use Rattle.txn_types.specs.BySession.{entry_of}
 use Rattle.txn_types.specs.Order.{same_tag, same_lsid, lsid_cmp}
 use Rattle.txn_types.specs.declared.names.Tag.{Tag}
 use Rattle.txn_types.specs.declared.node.Lsid.{Lsid}
 use Rattle.txn_types.proofs.Orders.{lsid_total, lsid_exact}
-use Rattle.txn_semantics.specs.Keyed.{taken_out, Rises}
+use Rattle.txn_semantics.specs.Keyed.{taken_out}
 use Rattle.txn_semantics.specs.Writes.{Place, place_of}
 use Rattle.txn_semantics.proofs.Laying.{rises_taken_out}
-use Rattle.session_table.specs.Sessions.{Table, session_of, with_session, with_state, prepared_at}
+use Rattle.session_table.specs.Sessions.{Table, with_state}
 use Rattle.session_table.specs.declared.session.Session.{Session}
-use Rattle.session_table.specs.declared.session.SessionState.{SessionState}
 use Rattle.session_table.specs.declared.session.SessionState.TheVariants as state
 use Rattle.version_store.specs.declared.version.Pending.{Pending}
 use Rattle.version_store.specs.declared.version.Stamp.{Stamp}
 use Rattle.version_store.specs.declared.version.Stamp.TheVariants.{Unfinished, Prepared, At}
 use Rattle.version_store.specs.declared.version.Version.{Version}
-use Rattle.version_store.specs.Versions.{Versions, versions_of, finished, stamped, with_writes, keys_of, is_of, commit_of, writer_of, restamped, prepared}
+use Rattle.version_store.specs.Versions.{Versions, versions_of, stamped, with_writes, keys_of, is_of, commit_of, writer_of, restamped, prepared}
 use Rattle.journal_rec.specs.declared.record.Rec.TheVariants as rec
 use Rattle.participant.specs.declared.said.Open.{Open}
 use Rattle.participant.specs.Part.{Part, session, open_of, is_open, ended}
@@ -28,7 +27,7 @@ use Rattle.participant.proofs.Forgotten.{keys_pushed}
 use Rattle.participant.proofs.Keys.{of_writer, keys_restamped}
 use Rattle.participant.proofs.Moving.{entry_here, of_two, one_session, pushed_stands, prepared_stands}
 use Rattle.participant.proofs.Statements.{has_live}
-use Rattle.participant.proofs.Tags.{tag_self, tag_same, lsid_same}
+use Rattle.participant.proofs.Tags.{tag_self, lsid_same}
 use Rattle.part_laws.specs.Each.{Each}
 use Rattle.part_laws.specs.Chain.{own_at}
 use Rattle.part_laws.specs.Seen.{wrote_at}
@@ -38,9 +37,8 @@ use Rattle.part_laws.proofs.Moving.{live_taken}
 use Rattle.part_laws.proofs.Opening.{stamps-own}
 use Rattle.part_laws.proofs.Stores.{versions-stamped}
 use Rattle.shard_image.specs.Image.{Image}
-use Rattle.durable_laws.proofs.Whole.{AreNewestFirst, newest_commit, HasStamp, IsOver, LiveHas, PendingHas, IsWhole}
-use Rattle.durable_laws.specs.Backed.{AreApart}
-use Rattle.durable_laws.proofs.Holding.{HoldsPart, behind, Left}
+use Rattle.durable_laws.proofs.Whole.{newest_commit, HasStamp, LiveHas, PendingHas, IsWhole}
+use Rattle.durable_laws.proofs.Holding.{HoldsPart, Left}
 use Rattle.durable_laws.proofs.Places.{newest_chain}
 use Rattle.durable_laws.proofs.Lasting.{finished_own}
 use Rattle.durable_laws.proofs.Beside.{Beside, beside_prepare}
@@ -148,10 +146,11 @@ module _ (i : Image) (p : Part) (last : ℕ) (lsid : Lsid) (s : Session) (o : Op
   over : (place : Place) → (let V : List Version = versions_of (prepared s.tag at p.store) place in Each (HasStamp s.tag (Prepared s.tag at)) V × (is_some (own_at s.tag V) ≡ true → newest_commit V ≤ o.read_at))
   over place =
       let V : List Version = versions_of p.store place in
-      subst (λ W. Each (HasStamp s.tag (Prepared s.tag at)) W × (is_some (own_at s.tag W) ≡ true → newest_commit W ≤ o.read_at)) (sym (versions-stamped s.tag (Prepared s.tag at) p.store place))
-      (stamps-own s.tag (Prepared s.tag at) V,
-      (λ has. subst (λ n. n ≤ o.read_at) (sym (commits_prepared s.tag at V))
-          (subst (λ t. is_some (own_at t V) ≡ true → newest_commit V ≤ o.read_at) tag_is.0 ((whole.live lsid o mine).over.behind place) (ap is_some (sym (own-prepared s.tag s.tag at V)) ∙ has))))
+      subst (λ W. Each (HasStamp s.tag (Prepared s.tag at)) W × (is_some (own_at s.tag W) ≡ true → newest_commit W ≤ o.read_at)) (sym (versions-stamped s.tag (Prepared s.tag at) p.store place)) (
+        stamps-own s.tag (Prepared s.tag at) V,
+        (λ has. subst (λ n. n ≤ o.read_at) (sym (commits_prepared s.tag at V))
+            (subst (λ t. is_some (own_at t V) ≡ true → newest_commit V ≤ o.read_at) tag_is.0 ((whole.live lsid o mine).over.behind place) (ap is_some (sym (own-prepared s.tag s.tag at V)) ∙ has))),
+      )
 
   new_pending : PendingHas q x
   new_pending =
@@ -193,7 +192,7 @@ module _ (i : Image) (p : Part) (last : ℕ) (lsid : Lsid) (s : Session) (o : Op
           boot = holds.boot;
           store = ap (λ (v : Versions). stamped s.tag (Prepared s.tag at) (with_writes s.tag v o.writes)) holds.store
               ∙ finished_own s.tag (Prepared s.tag at) p.store o.writes whole.rises refl (live_unfinished p last lsid s o whole mine tag_is.0) (λ place. newest_chain (versions_of p.store place) (whole.newest place))
-                (λ place. subst (λ t. own_at t (versions_of p.store place) ≡ wrote_at place o.writes) tag_is.0 ((whole.live lsid o mine).own place));
+              (λ place. subst (λ t. own_at t (versions_of p.store place) ≡ wrote_at place o.writes) tag_is.0 ((whole.live lsid o mine).own place));
           pending = ap (λ xs. xs ++ x ∷ []) holds.pending;
           sessions = recorded_now p q i.sessions lsid now holds.sessions here elsewhere (λ h. cc);
         };

@@ -1,6 +1,5 @@
 -- A shard's state behind the rule of a message: the records' state backs it, with the rule's record.
-use Rattle.std.proofs.Common.{◌≡◌, ◌≤◌, ℕ, ℤ, Bool, true, false, cond, List, [], ◌∷◌, Option, Some, None, IfSome, option_map, option_and_then, refl, ap, subst, ◌∙◌, sym, nat_eq, int_lt, if◌then◌else◌}
-use Rattle.txn_types.specs.Letters.{Letter}
+use Rattle.std.proofs.Common.{◌≡◌, ◌≤◌, ℕ, ℤ, Bool, true, false, Option, Some, None, IfSome, refl, ap, ◌∙◌, sym, nat_eq, if◌then◌else◌}
 use Rattle.txn_types.specs.Order.{same_tag, tag_cmp}
 use Rattle.txn_types.specs.declared.cause.Cause.TheVariants as cause
 use Rattle.txn_types.specs.declared.decision.Decision.{Decision}
@@ -11,38 +10,32 @@ use Rattle.txn_types.specs.declared.message.Msg.TheVariants as msg
 use Rattle.txn_types.specs.declared.message.Statement.{Statement}
 use Rattle.txn_types.specs.declared.message.Vote.{Vote}
 use Rattle.txn_types.specs.declared.names.Tag.{Tag}
-use Rattle.txn_types.specs.declared.node.Lsid.{Lsid}
 use Rattle.txn_types.specs.declared.node.NodeId.{NodeId}
-use Rattle.txn_semantics.specs.Keyed.{put, taken_out, Rises}
+use Rattle.txn_semantics.specs.Keyed.{put, taken_out}
 use Rattle.session_table.specs.declared.session.Session.{Session}
 use Rattle.session_table.specs.declared.session.SessionState.{SessionState}
 use Rattle.session_table.specs.declared.session.SessionState.TheVariants as state
 use Rattle.journal_rec.specs.declared.record.Rec.{Rec}
 use Rattle.journal_rec.specs.declared.record.Rec.TheVariants as rec
-use Rattle.coordinator.specs.TwoPhase.{Coordinated, coordinated_of, with_coordinated, undecided, with_asker, decided_by, is_last_ack}
+use Rattle.coordinator.specs.TwoPhase.{Coordinated, coordinated_of, undecided, with_asker, decided_by, is_last_ack}
 use Rattle.participant.specs.declared.said.Said.{Said}
 use Rattle.participant.specs.declared.said.Said.TheVariants.{Did, Blocked, Refused, Late}
 use Rattle.participant.specs.Part.{Part, session, elsewhere}
 use Rattle.participant.specs.Statement.{statement}
-use Rattle.participant.specs.Commit.{commit}
-use Rattle.participant.specs.Prepare.{prepare}
 use Rattle.participant.specs.Decide.{decide}
-use Rattle.participant.specs.Abort.{abort}
-use Rattle.participant.specs.Recover.{recover}
 use Rattle.participant.specs.Memory.{ended_for_memory}
 use Rattle.participant.proofs.Cases.{either}
 use Rattle.participant.proofs.Following.{either_is}
 use Rattle.shard_image.specs.Image.{Image}
 use Rattle.shard_image.specs.Sound.{IsWritten}
 use Rattle.shard_core.specs.State.{ShardState, with_part, with_last, read_at_of}
-use Rattle.shard_core.specs.Ruled.{Ruled, quiet, coordinates}
+use Rattle.shard_core.specs.Ruled.{Ruled, coordinates}
 use Rattle.shard_core.specs.Participating.{answers, decided_record}
 use Rattle.shard_core.specs.Coordinating.{asks, unless_coordinated, unless_older, unless_known, larger_number, plan_of, starts_own, starts_new, votes_on, votes_if, acks_if, on_commit_two, on_recover, recovers}
 use Rattle.shard_core.specs.Rules.{ruled, from_router, router_of}
-use Rattle.shard_core.specs.Wanting.{Wanting, wanting, told_if, told_memory, may_be_told}
+use Rattle.shard_core.specs.Wanting.{Wanting, told_memory}
 use Rattle.shard_core.specs.Durable.{plans_of}
-use Rattle.durable_laws.proofs.Whole.{IsWhole}
-use Rattle.durable_laws.proofs.Holding.{HoldsPart, behind, Left, Backs}
+use Rattle.durable_laws.proofs.Holding.{behind, Left, Backs}
 use Rattle.durable_laws.proofs.Coordinated.{plans_put, plans_out, plans_same, rises_with, vote_leaves, vote_decides, record_decides, rises_voted, rises_acked, last_ack, other_ack}
 use Rattle.durable_laws.proofs.Ends.{abort_left}
 use Rattle.durable_laws.proofs.Stating.{statement_left}
@@ -74,13 +67,15 @@ module _ (i : Image) (s : ShardState) (b : Backs i s) where
 
   asks_backed : (router : ℕ) (tag : Tag) (c : Coordinated) (d : Option Decision) → coordinated_of s.coord tag ≡ Some c → c.decision ≡ d → BacksRuled i (asks s router tag c d)
   asks_backed router tag c None there is = (
-      record {
-        whole = b.whole;
-        holds = b.holds;
-        ceiling = b.ceiling;
-        rises = rises_with tag (with_asker router c) s.coord b.rises;
-        plans = b.plans ∙ sym (plans_same tag c (with_asker router c) s.coord b.rises there refl);
-      }, tt)
+    record {
+      whole = b.whole;
+      holds = b.holds;
+      ceiling = b.ceiling;
+      rises = rises_with tag (with_asker router c) s.coord b.rises;
+      plans = b.plans ∙ sym (plans_same tag c (with_asker router c) s.coord b.rises there refl);
+    },
+    tt,
+  )
   asks_backed router tag c (Some d) there is = ok
 
   coordinated_backed : (router : ℕ) (tag : Tag) (c : Option Coordinated) (other : Ruled) → coordinated_of s.coord tag ≡ c → BacksRuled i other → BacksRuled i (unless_coordinated s router tag c other)
@@ -97,14 +92,16 @@ module _ (i : Image) (s : ShardState) (b : Backs i s) where
 
   starts_own_backed : (router : ℕ) (m : CommitTwo) (own : Session) (st : SessionState) → own.state ≡ st → session s.part m.lsid ≡ Some own → BacksRuled i (starts_own s router m own st)
   starts_own_backed router m own state.Live is there =
-      either (nat_eq m.boot s.part.boot) (BacksRuled i) _ _
-      (record {
-        whole = b.whole;
-        holds = record { boot = b.holds.boot; store = b.holds.store; pending = b.holds.pending; sessions = b.holds.sessions };
-        ceiling = b.ceiling;
-        rises = rises_with m.tag (with_asker router (undecided (plan_of m))) s.coord b.rises;
-        plans = plans_put m.tag (undecided (plan_of m)) i.coord ∙ ap (put tag_cmp m.tag (plan_of m, None)) b.plans ∙ sym (plans_put m.tag (with_asker router (undecided (plan_of m))) s.coord);
-      }, tt)
+      either (nat_eq m.boot s.part.boot) (BacksRuled i) _ _ (
+        record {
+          whole = b.whole;
+          holds = record { boot = b.holds.boot; store = b.holds.store; pending = b.holds.pending; sessions = b.holds.sessions };
+          ceiling = b.ceiling;
+          rises = rises_with m.tag (with_asker router (undecided (plan_of m))) s.coord b.rises;
+          plans = plans_put m.tag (undecided (plan_of m)) i.coord ∙ ap (put tag_cmp m.tag (plan_of m, None)) b.plans ∙ sym (plans_put m.tag (with_asker router (undecided (plan_of m))) s.coord);
+        },
+        tt,
+      )
       (with_left i s _ None b (abort_left i s.part s.clock.last m.lsid own b.whole b.holds there is (cause.Unavailable m.boot s.part.boot)))
   starts_own_backed router m own (state.Prepared at coordinator) is there = ok
   starts_own_backed router m own (state.Committed at) is there = ok
@@ -117,21 +114,25 @@ module _ (i : Image) (s : ShardState) (b : Backs i s) where
 
   votes_on_backed : (m : Vote) (c : Coordinated) (d : Option Decision) → coordinated_of s.coord m.tag ≡ Some c → decided_by m.shard m.vote c ≡ d → BacksRuled i (votes_on s m c d)
   votes_on_backed m c None there is = (
-      record {
-        whole = b.whole;
-        holds = b.holds;
-        ceiling = b.ceiling;
-        rises = rises_voted m.tag m.shard m.vote c s.coord b.rises;
-        plans = b.plans ∙ sym (vote_leaves m.tag m.shard m.vote c s.coord b.rises there is);
-      }, tt)
+    record {
+      whole = b.whole;
+      holds = b.holds;
+      ceiling = b.ceiling;
+      rises = rises_voted m.tag m.shard m.vote c s.coord b.rises;
+      plans = b.plans ∙ sym (vote_leaves m.tag m.shard m.vote c s.coord b.rises there is);
+    },
+    tt,
+  )
   votes_on_backed m c (Some d) there is = (
-      record {
-        whole = b.whole;
-        holds = record { boot = b.holds.boot; store = b.holds.store; pending = b.holds.pending; sessions = b.holds.sessions };
-        ceiling = b.ceiling;
-        rises = rises_voted m.tag m.shard m.vote c s.coord b.rises;
-        plans = record_decides m.tag d c i.coord s.coord b.plans there ∙ sym (vote_decides m.tag m.shard m.vote c s.coord d is);
-      }, tt)
+    record {
+      whole = b.whole;
+      holds = record { boot = b.holds.boot; store = b.holds.store; pending = b.holds.pending; sessions = b.holds.sessions };
+      ceiling = b.ceiling;
+      rises = rises_voted m.tag m.shard m.vote c s.coord b.rises;
+      plans = record_decides m.tag d c i.coord s.coord b.plans there ∙ sym (vote_decides m.tag m.shard m.vote c s.coord d is);
+    },
+    tt,
+  )
 
   votes_backed : (m : Vote) (c : Option Coordinated) → coordinated_of s.coord m.tag ≡ c → BacksRuled i (votes_if s m c)
   votes_backed m None is = ok
@@ -139,21 +140,25 @@ module _ (i : Image) (s : ShardState) (b : Backs i s) where
 
   ack_case : (m : Acked) (c : Coordinated) (last : Bool) → coordinated_of s.coord m.tag ≡ Some c → is_last_ack m.shard c ≡ last → (let q : ShardState = (acks_if s m (Some c)).core in Backs (behind i (if last then Some (rec.CoordEnd m.tag) else None)) q × IfSome (if last then Some (rec.CoordEnd m.tag) else None) IsWritten)
   ack_case m c true there is = (
-      record {
-        whole = b.whole;
-        holds = record { boot = b.holds.boot; store = b.holds.store; pending = b.holds.pending; sessions = b.holds.sessions };
-        ceiling = b.ceiling;
-        rises = rises_acked m.tag m.shard c s.coord b.rises;
-        plans = plans_out m.tag i.coord ∙ ap (taken_out tag_cmp m.tag) b.plans ∙ sym (last_ack m.tag m.shard c s.coord is);
-      }, tt)
+    record {
+      whole = b.whole;
+      holds = record { boot = b.holds.boot; store = b.holds.store; pending = b.holds.pending; sessions = b.holds.sessions };
+      ceiling = b.ceiling;
+      rises = rises_acked m.tag m.shard c s.coord b.rises;
+      plans = plans_out m.tag i.coord ∙ ap (taken_out tag_cmp m.tag) b.plans ∙ sym (last_ack m.tag m.shard c s.coord is);
+    },
+    tt,
+  )
   ack_case m c false there is = (
-      record {
-        whole = b.whole;
-        holds = b.holds;
-        ceiling = b.ceiling;
-        rises = rises_acked m.tag m.shard c s.coord b.rises;
-        plans = b.plans ∙ sym (other_ack m.tag m.shard c s.coord b.rises there is);
-      }, tt)
+    record {
+      whole = b.whole;
+      holds = b.holds;
+      ceiling = b.ceiling;
+      rises = rises_acked m.tag m.shard c s.coord b.rises;
+      plans = b.plans ∙ sym (other_ack m.tag m.shard c s.coord b.rises there is);
+    },
+    tt,
+  )
 
   acks_backed : (m : Acked) (c : Option Coordinated) → coordinated_of s.coord m.tag ≡ c → BacksRuled i (acks_if s m c)
   acks_backed m None is = ok

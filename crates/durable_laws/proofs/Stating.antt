@@ -1,5 +1,5 @@
 -- A part behind a statement.
-use Rattle.std.proofs.Common.{◌≡◌, ◌≤◌, ◌<◌, ◌<ℤ◌, ◌⊎◌, inl, inr, ◌++◌, ◌||◌, ◌&&◌, ℕ, ℤ, Bool, true, false, cond, not, List, [], ◌∷◌, Option, Some, None, IsSome, IsSomeAnd, IfSome, Result, Ok, Err, filter, map, refl, ap, subst, ◌∙◌, sym, arith, nat_eq, nat_lt, int_lt, if◌then◌else◌}
+use Rattle.std.proofs.Common.{◌≡◌, ◌≤◌, ◌<ℤ◌, ◌⊎◌, inl, inr, ◌||◌, ◌&&◌, ℕ, Bool, true, false, cond, not, List, [], ◌∷◌, Option, Some, None, IsSomeAnd, IfSome, Result, Ok, Err, refl, ap, subst, ◌∙◌, sym, arith, nat_eq, nat_lt, int_lt}
 use Rattle.std.specs.List.{list_any}
 use Rattle.bson_core.specs.Fields.{Document}
 use Rattle.txn_types.specs.BySession.{BySession, with_entry}
@@ -18,23 +18,22 @@ use Rattle.txn_semantics.specs.Meaning.{Meaning, eval}
 use Rattle.txn_semantics.specs.Rows.{Row}
 use Rattle.txn_semantics.specs.Writes.{Place}
 use Rattle.txn_semantics.proofs.Steps.{filters}
-use Rattle.session_table.specs.Sessions.{Table, session_of, with_session, with_state, prepared_at, is_full}
+use Rattle.session_table.specs.Sessions.{with_session, prepared_at, is_full}
 use Rattle.session_table.specs.declared.session.Session.{Session}
 use Rattle.session_table.specs.declared.session.SessionState.{SessionState}
 use Rattle.session_table.specs.declared.session.SessionState.TheVariants as state
 use Rattle.version_store.specs.Versions.{Versions, versions_of, finished, dropped, without, with_writes, is_of, conflict}
-use Rattle.version_store.specs.declared.version.Version.{Version}
 use Rattle.version_store.specs.declared.version.Held.{Held}
 use Rattle.journal_rec.specs.Volume.{volume}
 use Rattle.participant.specs.declared.said.Open.{Open}
 use Rattle.participant.specs.Part.{Part, session, open_of, is_open, elsewhere, closed, without_live, aborted, is_replaced}
-use Rattle.participant.specs.Statement.{Turn, own_of, writes_with, with_open, refuses, does, opened, made_room, within_volume, unless_conflict, writing, evaluated, scanned, performed, begins, beside_older, beside, first_statement, goes_on, later_statement, by_session, statement, read_time, most_bytes, stands as stands_as}
+use Rattle.participant.specs.Statement.{Turn, writes_with, with_open, refuses, does, opened, unless_conflict, evaluated, scanned, performed, begins, beside_older, beside, first_statement, goes_on, later_statement, by_session, statement, read_time, most_bytes, stands as stands_as}
 use Rattle.participant.specs.Stands.{CanLeave, live_session, StateAt, SessionAt}
 use Rattle.participant.proofs.Cases.{either}
 use Rattle.participant.proofs.Following.{either_is}
 use Rattle.participant.proofs.Ends.{entry_elsewhere}
 use Rattle.participant.proofs.Moving.{entry_here}
-use Rattle.participant.proofs.Tags.{lsid_self, lsid_same, lsid_flip, tag_self, tag_same}
+use Rattle.participant.proofs.Tags.{lsid_self, lsid_flip, tag_same}
 use Rattle.part_laws.specs.Each.{Each}
 use Rattle.part_laws.specs.Chain.{IsCommitted}
 use Rattle.part_laws.specs.Seen.{wrote_at}
@@ -44,13 +43,12 @@ use Rattle.part_laws.proofs.Stores.{versions-dropped}
 use Rattle.part_laws.proofs.Writing.{free_of}
 use Rattle.part_laws.proofs.Ended.{in_state}
 use Rattle.shard_image.specs.Image.{Image}
-use Rattle.shard_core.specs.Durable.{HasSession}
 use Rattle.durable_laws.proofs.Whole.{newest_commit, IsWhole}
-use Rattle.durable_laws.proofs.Holding.{HoldsPart, behind, Left}
+use Rattle.durable_laws.proofs.Holding.{HoldsPart, Left}
 use Rattle.durable_laws.proofs.Beside.{IsFree, commits_dropped}
 use Rattle.durable_laws.proofs.Lasting.{finished_end, finished_writes}
-use Rattle.durable_laws.proofs.Ends.{at_session, live_open, live_unfinished, abort_left, has_some, recorded_below, unrecorded}
-use Rattle.durable_laws.proofs.Opening.{settles_whole, MayOpen, Had, had, opened_part, opens_whole}
+use Rattle.durable_laws.proofs.Ends.{at_session, live_open, live_unfinished, abort_left, recorded_below, unrecorded}
+use Rattle.durable_laws.proofs.Opening.{settles_whole, Had, had, opens_whole}
 
 -- An older live transaction of the session is ended first.
 
@@ -157,13 +155,13 @@ older_ended i p last m s whole holds there live =
           ap (λ e. with_open (closed p m.lsid e) m o writes) a.1
           ∙ ap (λ (t : Tag). let x : Part = record p { sessions = with_session p.sessions m.lsid (live_session m); live = put lsid_cmp m.lsid o (taken_out lsid_cmp m.lsid p.live); store = with_writes m.tag (dropped t p.store) writes } in x) a.2
           ∙ ap (λ (entries : BySession Session). let x : Part = record p { sessions = record { limit = p.sessions.limit; entries = entries }; live = put lsid_cmp m.lsid o (taken_out lsid_cmp m.lsid p.live); store = with_writes m.tag (dropped s.tag p.store) writes } in x)
-            (sym (with_twice m.lsid mid (live_session m) p.sessions.entries));
+          (sym (with_twice m.lsid mid (live_session m) p.sessions.entries));
       settles = λ st.
           let new : Session = record { number = m.number; tag = m.tag; state = st } in
           ap (λ e. stands_as (closed p m.lsid e) m st) a.1
           ∙ ap (λ (t : Tag). let x : Part = record p { sessions = with_session p.sessions m.lsid new; live = taken_out lsid_cmp m.lsid p.live; store = dropped t p.store } in x) a.2
           ∙ ap (λ (entries : BySession Session). let x : Part = record p { sessions = record { limit = p.sessions.limit; entries = entries }; live = taken_out lsid_cmp m.lsid p.live; store = dropped s.tag p.store } in x)
-            (sym (with_twice m.lsid mid new p.sessions.entries));
+          (sym (with_twice m.lsid mid new p.sessions.entries));
       newest = λ place. ap newest_commit (versions-dropped s.tag p.store place whole.rises) ∙ commits_dropped s.tag (versions_of p.store place);
       free = λ place h.
           subst (λ V. Each IsCommitted (without m.tag V)) (sym (versions-dropped s.tag p.store place whole.rises))
@@ -323,8 +321,10 @@ module _ (i : Image) (p : Part) (last wall : ℕ) (m : Statement) (whole : IsWho
     where
       above : Above p m
       above t has = let both : Some s ≡ Some t = sym there ∙ has in let one : s ≡ t = cc in inl (subst (λ (z : Session). z.number <ℤ m.number) one less)
+
       leave : prepared_at s.state ≡ None → CanLeave (session p m.lsid)
       leave none = subst (λ x. IfSome x (λ t. prepared_at t.state ≡ None)) (sym there) none
+
       older_by : (st : SessionState) → s.state ≡ st → Left i (beside_older p last wall m s.tag st).1 last None
       older_by state.Live is = begins_left above (leave (ap prepared_at is))
       older_by (state.Prepared at coordinator) is = same
@@ -367,18 +367,21 @@ module _ (i : Image) (p : Part) (last wall : ℕ) (m : Statement) (whole : IsWho
   session_case (Some s) is =
       either_is (is_replaced s m.number m.tag) (λ (t : Turn). Left i t.1 last None) _ _ (λ yes. same)
       (λ no. either_is (same_tag s.tag m.tag) (λ (t : Turn). Left i t.1 last None) _ _
-          (λ own. later_case s s.state refl is (tag_same s.tag m.tag own) (not_replaced s no))
-          (λ other. first_case (Some s) is (λ t h. let one : s ≡ t = cc in subst (λ (z : Session). z.number <ℤ m.number) one (below_other s no other))))
+      (λ own. later_case s s.state refl is (tag_same s.tag m.tag own) (not_replaced s no))
+      (λ other. first_case (Some s) is (λ t h. let one : s ≡ t = cc in subst (λ (z : Session). z.number <ℤ m.number) one (below_other s no other))))
     where
       or_false : (a b : Bool) → (a || b) ≡ false → (a ≡ false) × (b ≡ false)
       or_false true b h = cc
       or_false false b h = (refl, h)
+
       not_replaced : (s : Session) → is_replaced s m.number m.tag ≡ false → int_lt m.number s.number ≡ false
       not_replaced s h = (or_false (int_lt m.number s.number) (not (int_lt s.number m.number) && not (same_tag s.tag m.tag)) h).0
+
       below_by : (a b : Bool) → (not a && not b) ≡ false → b ≡ false → a ≡ true
       below_by true b h other = refl
       below_by false true h other = cc
       below_by false false h other = cc
+
       below_other : (s : Session) → is_replaced s m.number m.tag ≡ false → same_tag s.tag m.tag ≡ false → s.number <ℤ m.number
       below_other s h other =
           let less = below_by (int_lt s.number m.number) (same_tag s.tag m.tag) (or_false (int_lt m.number s.number) (not (int_lt s.number m.number) && not (same_tag s.tag m.tag)) h).1 other in

@@ -1,36 +1,33 @@
 -- A step of a shard's core, and the records of its appends.
-use Rattle.std.proofs.Common.{◌≡◌, ◌≤◌, ◌<◌, ◌+◌, ◌-◌, ◌*◌, ◌^◌, ◌++◌, ◌⊎◌, inl, inr, ℕ, max, min, Bool, true, false, List, [], ◌∷◌, Option, Some, None, IfSome, option_map, option_and_then, unwrap_or, refl, ap, subst, ◌∙◌, sym, arith, nat_lt, if◌then◌else◌}
-use Rattle.std.specs.List.{AllByRecursion}
-use Rattle.txn_types.specs.Clock.{Clock, raised, advanced, reach, wanted_ceiling, last_time, next_time}
+use Rattle.std.proofs.Common.{◌≡◌, ◌≤◌, ◌<◌, ◌-◌, ◌^◌, ◌++◌, ℕ, max, Bool, true, false, List, [], ◌∷◌, Option, Some, None, IfSome, option_map, option_and_then, unwrap_or, refl, ap, subst, ◌∙◌, sym, arith, nat_lt, if◌then◌else◌}
+use Rattle.txn_types.specs.Clock.{raised, advanced, reach, wanted_ceiling}
 use Rattle.txn_types.specs.declared.event.Happening.{Happening}
 use Rattle.txn_types.specs.declared.event.Happening.TheVariants as what
 use Rattle.txn_types.specs.declared.event.NodeAnswer.{NodeAnswer}
 use Rattle.txn_types.specs.declared.event.NodeAnswer.TheVariants as answer
 use Rattle.txn_types.specs.declared.event.NodeEvent.{NodeEvent}
 use Rattle.txn_types.specs.declared.message.Envelope.{Envelope}
-use Rattle.txn_types.specs.declared.node.Lsid.{Lsid}
 use Rattle.version_store.specs.Versions.{Versions, finished}
 use Rattle.journal_rec.specs.declared.record.Rec.{Rec}
 use Rattle.journal_rec.specs.declared.record.Rec.TheVariants as rec
 use Rattle.participant.specs.declared.said.Open.{Open}
-use Rattle.participant.specs.Part.{Part, open_of}
+use Rattle.participant.specs.Part.{Part}
 use Rattle.participant.specs.Expiry.{expire}
 use Rattle.participant.proofs.Cases.{either}
 use Rattle.shard_image.specs.Image.{Image, with_record, with_records, image_of}
 use Rattle.shard_image.specs.Sound.{IsWritten, AreWritten}
 use Rattle.shard_core.specs.State.{ShardState, walled, met, reached, ceiling_of, read_at_of}
 use Rattle.shard_core.specs.Ruled.{Ruled}
-use Rattle.shard_core.specs.Rules.{ruled}
 use Rattle.shard_core.specs.Wanting.{wanting, Wanting, told_if, told_memory, may_be_told}
 use Rattle.shard_core.specs.Core.{Room, Ample, Scarce, Short, CoreStep, core_step, step_if, stepped, stays, entered, happened, scarce, running_step, stopped_step}
 use Rattle.shard_core.specs.NodeStep.{NodeState, ceiling_append, record_append, appends_of, joined, Failed}
 use Rattle.durable_laws.proofs.Whole.{LiveHas, IsWhole}
 use Rattle.durable_laws.specs.Backed.{IsShard, IsBacked, at_ceiling, kept_state, lost_state}
-use Rattle.durable_laws.proofs.Holding.{HoldsPart, behind, Left, Backs}
+use Rattle.durable_laws.proofs.Holding.{behind, Backs}
 use Rattle.durable_laws.proofs.Events.{expire_kept}
 use Rattle.durable_laws.proofs.Facts.{image_append}
 use Rattle.durable_laws.proofs.Backing.{shard_whole, backs_shard, to_backs, from_backs}
-use Rattle.durable_laws.proofs.Ruling.{BacksRuled, with_left, ruled_backed, told_backed}
+use Rattle.durable_laws.proofs.Ruling.{with_left, ruled_backed, told_backed}
 
 -- A clock that goes on.
 
@@ -210,18 +207,20 @@ front_case i s o (Some bound) (Some r) [] lost rest is b mid all =
 front_case i s o (Some bound) (Some r) (k ∷ []) lost rest is b mid all =
     let first : (rec.Ceiling bound ∷ []) ≡ k = cc in
     let one : (r ∷ []) ≡ lost = cc in
-    let end : [] ≡ rest = cc in
-    (subst (λ (x : List Rec). Backs (with_records i (x ++ [])) (at_ceiling s o)) first mid,
-    subst (λ (z : List Rec). Backs (with_records i ((z ++ []) ++ lost)) (lost_state s o rest)) first
-    (subst (λ (x : List Rec). Backs (with_records (with_record i (rec.Ceiling bound)) x) (lost_state s o rest)) one
-    (subst (λ (x : List (List Rec)). Backs (with_record (with_record i (rec.Ceiling bound)) r) (lost_state s o x)) end all)))
+    let end : [] ≡ rest = cc in (
+      subst (λ (x : List Rec). Backs (with_records i (x ++ [])) (at_ceiling s o)) first mid,
+      subst (λ (z : List Rec). Backs (with_records i ((z ++ []) ++ lost)) (lost_state s o rest)) first
+          (subst (λ (x : List Rec). Backs (with_records (with_record i (rec.Ceiling bound)) x) (lost_state s o rest)) one
+          (subst (λ (x : List (List Rec)). Backs (with_record (with_record i (rec.Ceiling bound)) r) (lost_state s o x)) end all)),
+    )
 front_case i s o (Some bound) (Some r) (k ∷ l ∷ []) lost rest is b mid all = cc
 front_case i s o (Some bound) (Some r) (k ∷ l ∷ m ∷ kept) lost rest is b mid all = cc
 
-behind_both : (xs ys zs : List Rec) → (xs ++ ys) ++ zs ≡ xs ++ (ys ++ zs)
+pub behind_both : (xs ys zs : List Rec) → (xs ++ ys) ++ zs ≡ xs ++ (ys ++ zs)
 behind_both [] ys zs = refl
 behind_both (x ∷ xs) ys zs = ap (λ (l : List Rec). x ∷ l) (behind_both xs ys zs)
-with_hand : (old kept lost now hand : List Rec) → now ≡ old ++ kept → hand ≡ lost → now ++ hand ≡ old ++ (kept ++ lost)
+
+pub with_hand : (old kept lost now hand : List Rec) → now ≡ old ++ kept → hand ≡ lost → now ++ hand ≡ old ++ (kept ++ lost)
 with_hand old kept lost now hand a b = ap (λ (l : List Rec). l ++ hand) a ∙ ap (λ (l : List Rec). (old ++ kept) ++ l) b ∙ behind_both old kept lost
 
 -- an append failed
@@ -231,12 +230,13 @@ fault_is_backed old e room a new f b =
     let o : CoreStep = core_step room old.core e in
     let i : Image = image_of old.records in
     let start : Backs i old.core = to_backs old.records old.core b in
-    let fronts : BacksFront i old.core o f.kept f.lost f.rest = front_case i old.core o o.ceiling o.rec f.kept f.lost f.rest f.parted start (ceiling_case i old.core o.ceiling start) (step_backed room i old.core e start).0 in
-    (from_backs new.records (kept_state old.core o f.kept)
-        (subst (λ (x : List Rec). Backs (image_of x) (kept_state old.core o f.kept)) (sym f.records) (subst (λ (x : Image). Backs x (kept_state old.core o f.kept)) (sym (image_append old.records (joined f.kept))) fronts.0)),
-    from_backs (new.records ++ new.hand) (lost_state old.core o f.rest)
-        (subst (λ (x : List Rec). Backs (image_of x) (lost_state old.core o f.rest)) (sym (with_hand old.records (joined f.kept) f.lost new.records new.hand f.records f.hand))
-        (subst (λ (x : Image). Backs x (lost_state old.core o f.rest)) (sym (image_append old.records (joined f.kept ++ f.lost))) fronts.1)))
+    let fronts : BacksFront i old.core o f.kept f.lost f.rest = front_case i old.core o o.ceiling o.rec f.kept f.lost f.rest f.parted start (ceiling_case i old.core o.ceiling start) (step_backed room i old.core e start).0 in (
+      from_backs new.records (kept_state old.core o f.kept)
+          (subst (λ (x : List Rec). Backs (image_of x) (kept_state old.core o f.kept)) (sym f.records) (subst (λ (x : Image). Backs x (kept_state old.core o f.kept)) (sym (image_append old.records (joined f.kept))) fronts.0)),
+      from_backs (new.records ++ new.hand) (lost_state old.core o f.rest)
+          (subst (λ (x : List Rec). Backs (image_of x) (lost_state old.core o f.rest)) (sym (with_hand old.records (joined f.kept) f.lost new.records new.hand f.records f.hand))
+          (subst (λ (x : Image). Backs x (lost_state old.core o f.rest)) (sym (image_append old.records (joined f.kept ++ f.lost))) fronts.1)),
+    )
 
 -- Without records: those of a state that had none but this one.
 

@@ -10,4 +10,3 @@ prepared_is (state.Prepared since coordinator) at h = let same : since ≡ at = 
 prepared_is (state.Committed since) at h = cc
 prepared_is state.Released at h = cc
 prepared_is (state.Aborted why read_at) at h = cc
-

@@ -1,8 +1,7 @@
 -- What holds of a shard's part, beside that each session has what its state says: by place and by transaction.
-use Rattle.std.specs.Prelude.{◌≡◌, ◌≤◌, ◌<◌, ℕ, true, false, map, List, [], ◌∷◌, Some, is_some, unwrap_or}
+use Rattle.std.specs.Prelude.{◌≡◌, ◌≤◌, ◌<◌, ℕ, true, map, List, [], ◌∷◌, Some, is_some, unwrap_or}
 use Rattle.std.specs.List.{list_any}
-use Rattle.txn_types.specs.BySession.{BySession}
-use Rattle.txn_types.specs.Order.{same_lsid, same_tag, lsid_cmp}
+use Rattle.txn_types.specs.Order.{same_tag, lsid_cmp}
 use Rattle.txn_types.specs.declared.names.Tag.{Tag}
 use Rattle.txn_types.specs.declared.node.Lsid.{Lsid}
 use Rattle.txn_semantics.specs.Keyed.{Rises}

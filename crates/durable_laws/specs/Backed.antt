@@ -1,5 +1,6 @@
 -- A shard's state that its records hold.
-use Rattle.std.specs.Prelude.{◌≡◌, ◌≤◌, ◌+◌, ℕ, false, List, [], ◌∷◌, None, All, unwrap_or}
+use Rattle.std.specs.Prelude.{◌≡◌, ◌⊎◌, ◌≤◌, ◌+◌, false, List, [], ◌∷◌, ◌++◌, None, All, unwrap_or}
+use Rattle.std.proofs.Common.{inl, inr}
 use Rattle.txn_types.specs.BySession.{BySession}
 use Rattle.txn_types.specs.Order.{same_lsid, tag_cmp}
 use Rattle.txn_semantics.specs.Keyed.{Rises}
@@ -9,8 +10,11 @@ use Rattle.journal_rec.specs.declared.record.Rec.{Rec}
 use Rattle.participant.specs.Sound.{IsPart}
 use Rattle.participant.specs.Stands.{Stands}
 use Rattle.part_laws.specs.Each.{Each}
+use Rattle.shard_image.specs.Sound.{AreWritten}
+use Rattle.txn_types.specs.declared.event.NodeAnswer.{NodeAnswer}
 use Rattle.shard_core.specs.State.{ShardState}
 use Rattle.shard_core.specs.Core.{CoreStep}
+use Rattle.shard_core.specs.NodeStep.{NodeState, Appended, Failed}
 use Rattle.shard_core.specs.Durable.{plans_of, HasSession, AreRecordsOf}
 
 -- no session stands twice
@@ -60,3 +64,25 @@ pub record IsFoundAgain (old new : ShardState) : Type 0 where
   pub coord : plans_of new.coord ≡ plans_of old.coord
   pub sessions : All (λ entry. HasSession old.part entry.0 entry.1) new.part.sessions.entries
   pub stopped : new.stopped ≡ None
+
+-- Nodes.
+
+-- the shard is of one piece; where it runs, its records hold it and nothing is in hand; what its records hold, and what
+-- they hold with those in hand, is of one piece too; and the writes of each record rise
+pub record IsDurableNode (n : NodeState) : Type 0 where
+  pub shard : IsShard n.core
+  pub running : n.core.stopped ≡ None → IsBacked n.records n.core × (n.hand ≡ [])
+  pub kept : (s : ShardState) × IsBacked n.records s
+  pub hand : (s : ShardState) × IsBacked (n.records ++ n.hand) s
+  pub written : AreWritten (n.records ++ n.hand)
+
+-- what a stop of the machine leaves of a node: its records, or these with the ones in hand
+abbrev pub IsLeft : NodeState → List Rec → Type 0
+IsLeft n recs = (recs ≡ n.records) ⊎ (recs ≡ n.records ++ n.hand)
+
+-- the state that these records hold behind a step of a node that ran: the state behind the step; or, where an append
+-- failed, what the appends before it hold, or what they hold with it
+abbrev pub left_state : (old : NodeState) (o : CoreStep) (a : NodeAnswer) (new : NodeState) (recs : List Rec) → Appended old o a new ⊎ Failed old o a new → IsLeft new recs → ShardState
+left_state old o a new recs (inl done) left = o.core
+left_state old o a new recs (inr failed) (inl is) = kept_state old.core o failed.kept
+left_state old o a new recs (inr failed) (inr is) = lost_state old.core o failed.rest
