@@ -7,7 +7,6 @@ ghost use Rattle.shard_image.specs.Sound.{AreWritten};
 ghost use Rattle.shard_core.specs.State.{ShardState};
 ghost use Rattle.shard_core.specs.Core.{Room, core_step};
 ghost use Rattle.shard_core.specs.NodeStep.{NodeState, appends_of, joined, Failed, ShardTakes, started};
-ghost use Rattle.shard_core.specs.Durable.{AreRecordsOf};
 ghost use Rattle.durable_laws.specs.Backed.{IsShard, IsBacked, kept_state, lost_state, IsFoundAgain, IsDurableNode, IsLeft, left_state};
 
 /// A shard's part stays of one piece behind each step, whatever the event names: statement, commit, preparation, decision,
@@ -35,7 +34,7 @@ pub fn a_failed_append_is_durable()
 /// next boot and the clock at the last ceiling. Whatever records it takes, its own hold its state, and its part is
 /// whole. It takes an empty journal.
 pub fn a_start_is_durable()
-    ensures found { (shard : ℕ) (recs : List Rec) (faults : ℕ) (n : NodeState) (s : ShardState) → AreRecordsOf recs s → started shard recs faults ≡ Some n → IsFoundAgain s n.core }
+    ensures found { (shard : ℕ) (recs : List Rec) (faults : ℕ) (n : NodeState) (s : ShardState) → IsBacked recs s → started shard recs faults ≡ Some n → IsFoundAgain s n.core }
     ensures backed { (shard : ℕ) (recs : List Rec) (faults : ℕ) (n : NodeState) → AreWritten recs → started shard recs faults ≡ Some n → IsBacked n.records n.core }
     ensures first { (shard faults : ℕ) → (n : NodeState) × (started shard [] faults ≡ Some n) × IsBacked n.records n.core }
 {}
