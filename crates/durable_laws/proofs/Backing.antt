@@ -28,6 +28,7 @@ to_backs recs s b =
         store = d.store;
         pending = d.pending;
         sessions = λ lsid recorded has. (one_of_each (HasSession s.part) i.sessions.entries d.sessions lsid recorded has, fine.never lsid recorded has);
+        recorded = b.recorded;
       };
       ceiling = d.ceiling;
       rises = b.shard.rises;
@@ -48,4 +49,5 @@ from_backs recs s b =
         coord = b.plans;
         sessions = each_session (HasSession s.part) i.sessions.entries fine.apart (λ lsid recorded has. (b.holds.sessions lsid recorded has).0);
       };
+      recorded = b.holds.recorded;
     }

@@ -27,7 +27,7 @@ use Rattle.shard_image.specs.Image.{Image, with_record, image_of}
 use Rattle.shard_image.specs.Sound.{IsImage, IsHeld, IsFront, IsKey, Pends, HasIts, pending_of, prepare_time, AreWritten}
 use Rattle.shard_image.proofs.Decisions.{image_counted}
 use Rattle.shard_core.specs.State.{ShardState}
-use Rattle.shard_core.specs.Durable.{AreRecordsOf}
+use Rattle.shard_core.specs.Durable.{IsDurable}
 use Rattle.shard_core.specs.NodeStep.{NodeState, core_of, boot_behind, node_of, started_if, started}
 use Rattle.shard_core.proofs.Restarting.{part_of, image_stands}
 use Rattle.durable_laws.proofs.Whole.{AreFilled, AreNewestFirst, newest_commit, HasStamp, PendingHas, IsWhole}
@@ -202,6 +202,7 @@ module _ (i : Image) (h : IsImage i) where
           store = store_lasts;
           pending = refl;
           sessions = λ lsid recorded has. (some_has (part_of shard i) lsid recorded recorded has (inl refl), fine.never lsid recorded has);
+          recorded = λ lsid s there told. there;
         };
         ceiling = refl;
         rises = fine.rises;
@@ -237,8 +238,9 @@ start_backed shard recs faults n written h =
     let backs : Backs j (core_of shard j) = core_backed j sound shard (fine_record i (boot_behind i) (image_fine recs)) in
     subst (λ (x : NodeState). IsBacked x.records x.core) start.node (from_backs all (core_of shard (image_of all)) (subst (λ (x : Image). Backs x (core_of shard x)) (sym is) backs))
 
-pub start_finds : (shard : ℕ) (recs : List Rec) (faults : ℕ) (n : NodeState) (s : ShardState) → AreRecordsOf recs s → started shard recs faults ≡ Some n → IsFoundAgain s n.core
-start_finds shard recs faults n s d h =
+pub start_finds : (shard : ℕ) (recs : List Rec) (faults : ℕ) (n : NodeState) (s : ShardState) → IsBacked recs s → started shard recs faults ≡ Some n → IsFoundAgain s n.core
+start_finds shard recs faults n s b h =
+    let d : IsDurable (image_of recs) s = b.durable in
     let start = started_case shard recs faults n (first_refused recs) refl h in
     let i : Image = image_of recs in
     let j : Image = with_record i (boot_behind i) in
@@ -252,6 +254,7 @@ start_finds shard recs faults n s d h =
       live = refl;
       coord = d.coord;
       sessions = d.sessions;
+      recorded = b.recorded;
       stopped = refl;
     } in
     subst (λ (x : NodeState). IsFoundAgain s x.core) start.node (subst (λ (x : Image). IsFoundAgain s (core_of shard x)) (sym is) found)

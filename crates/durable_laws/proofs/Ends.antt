@@ -36,6 +36,7 @@ use Rattle.part_laws.proofs.Ended.{in_state}
 use Rattle.shard_image.specs.Image.{Image}
 use Rattle.shard_core.specs.Durable.{HasSession}
 use Rattle.durable_laws.proofs.Whole.{AreNewestFirst, newest_commit, HasStamp, PendingHas, IsWhole}
+use Rattle.durable_laws.specs.Backed.{is_recorded, AreRecorded}
 use Rattle.durable_laws.proofs.Holding.{HoldsPart, Left}
 use Rattle.durable_laws.proofs.Places.{MayStamp, newest_chain, behind_fall, fall_below, below_more}
 use Rattle.durable_laws.proofs.Lasting.{finished_end, finished_own, finished_decided, finished_drop}
@@ -122,6 +123,28 @@ module _ (p q : Part) (table : Table) (lsid : Lsid) (new : Session) (old : Recor
   pub recorded_now : (new.state ≡ state.Live → ⊥) → Recorded (with_session table lsid new) q
   recorded_now never x recorded has = recorded_case never x recorded (same_lsid x lsid) refl has
 
+-- What is recorded of other sessions stays, and the new transaction is recorded, or leaves nothing that has to be.
+module _ (p q : Part) (table : Table) (lsid : Lsid) (new : Session) (old : AreRecorded table p) (here : session q lsid ≡ Some new) (beside : (x : Lsid) → same_lsid x lsid ≡ false → session q x ≡ session p x) where
+  still_case : is_recorded new.state ≡ false → (x : Lsid) (t : Session) (b : Bool) → same_lsid x lsid ≡ b → session q x ≡ Some t → is_recorded t.state ≡ true → session_of table x ≡ Some t
+  still_case none x t true is has told =
+      let both : Some new ≡ Some t = sym here ∙ ap (session q) (sym (lsid_same x lsid is)) ∙ has in
+      let one : new ≡ t = cc in
+      let wrong : true ≡ false = sym told ∙ ap (λ (z : Session). is_recorded z.state) (sym one) ∙ none in cc
+  still_case none x t false is has told = old x t (sym (beside x is) ∙ has) told
+
+  pub still_recorded : is_recorded new.state ≡ false → AreRecorded table q
+  still_recorded none x t has told = still_case none x t (same_lsid x lsid) refl has told
+
+  too_case : (x : Lsid) (t : Session) (b : Bool) → same_lsid x lsid ≡ b → session q x ≡ Some t → is_recorded t.state ≡ true → session_of (with_session table lsid new) x ≡ Some t
+  too_case x t true is has told =
+      let both : Some new ≡ Some t = sym here ∙ ap (session q) (sym (lsid_same x lsid is)) ∙ has in
+      let one : new ≡ t = cc in
+      ap (session_of (with_session table lsid new)) (lsid_same x lsid is) ∙ entry_here lsid new table.entries ∙ ap Some one
+  too_case x t false is has told = entry_elsewhere x lsid is new table.entries ∙ old x t (sym (beside x is) ∙ has) told
+
+  pub too_recorded : AreRecorded (with_session table lsid new) q
+  too_recorded x t has told = too_case x t (same_lsid x lsid) refl has told
+
 -- A live transaction's end.
 
 ended_here : (p : Part) (store : Versions) (lsid : Lsid) (s : Session) (st : SessionState) → session (ended (record p { store = store }) lsid s st) lsid ≡ Some (in_state s st)
@@ -143,8 +166,8 @@ closes_live p last store lsid s st whole there live shut beside gone =
 
 module _ (i : Image) (p : Part) (last : ℕ) (lsid : Lsid) (s : Session) (whole : IsWhole p last) (holds : HoldsPart i p) (there : session p lsid ≡ Some s) (live : s.state ≡ state.Live) where
   -- without a record
-  ends_left : (later : ℕ) (store : Versions) (st : SessionState) → is_open st ≡ false → last ≤ later → Beside s.tag p.store store → keys_of s.tag store ≡ [] → finished store ≡ finished p.store → Left i (ended (record p { store = store }) lsid s st) later None
-  ends_left later store st shut on beside gone same =
+  ends_left : (later : ℕ) (store : Versions) (st : SessionState) → is_open st ≡ false → is_recorded st ≡ false → last ≤ later → Beside s.tag p.store store → keys_of s.tag store ≡ [] → finished store ≡ finished p.store → Left i (ended (record p { store = store }) lsid s st) later None
+  ends_left later store st shut silent on beside gone same =
       let q : Part = ended (record p { store = store }) lsid s st in
       record {
         whole = closes_whole p q last later lsid s st whole there (ap is_open live) shut on (closes_live p last store lsid s st whole there live shut beside gone);
@@ -153,6 +176,7 @@ module _ (i : Image) (p : Part) (last : ℕ) (lsid : Lsid) (s : Session) (whole 
           store = holds.store ∙ sym same;
           pending = holds.pending;
           sessions = unrecorded p q i.sessions lsid (in_state s st) holds.sessions (ended_here p store lsid s st) (ended_beside p store lsid s st) (λ recorded has was never. recorded_below s recorded (has_some p lsid recorded s was there) never live);
+          recorded = still_recorded p q i.sessions lsid (in_state s st) holds.recorded (ended_here p store lsid s st) (ended_beside p store lsid s st) silent;
         };
         ceiling = refl;
         coord = refl;
@@ -162,13 +186,13 @@ module _ (i : Image) (p : Part) (last : ℕ) (lsid : Lsid) (s : Session) (whole 
   pub abort_left : (why : Cause) → Left i (aborted p lsid s why) last None
   abort_left why =
       let o = live_open p last lsid s whole there live in
-      ends_left last (dropped s.tag p.store) (state.Aborted why 0) refl (omega arith) (beside_drop s.tag p.store whole.rises whole.newest) (keys_gone s.tag p.store)
+      ends_left last (dropped s.tag p.store) (state.Aborted why 0) refl refl (omega arith) (beside_drop s.tag p.store whole.rises whole.newest) (keys_gone s.tag p.store)
       (finished_end s.tag p.store whole.rises (live_unfinished p last lsid s o.0 whole o.1 o.2))
 
   pub release_left : ((o : Open) → open_of p lsid ≡ Some o → o.writes ≡ []) → Left i (ended p lsid s state.Released) last None
   release_left none =
       let o = live_open p last lsid s whole there live in
-      ends_left last p.store state.Released refl (omega arith) (beside_same s.tag p.store whole.rises whole.filled whole.newest) (sym o.3 ∙ ap (map place_of) (none o.0 o.1)) refl
+      ends_left last p.store state.Released refl refl (omega arith) (beside_same s.tag p.store whole.rises whole.filled whole.newest) (sym o.3 ∙ ap (map place_of) (none o.0 o.1)) refl
 
   -- its versions may be stamped with a time above the clock
   may_place : (o : Open) (at : ℕ) (new : Stamp) → open_of p lsid ≡ Some o → o.tag ≡ s.tag → last < at → ((V : List Version) → FallBelow at V → StandsBefore V new) → (V : List Version) → AreNewestFirst V → Each (HasStamp s.tag (Unfinished s.tag)) V
@@ -206,6 +230,7 @@ module _ (i : Image) (p : Part) (last : ℕ) (lsid : Lsid) (s : Session) (whole 
               (λ place. subst (λ t. own_at t (versions_of p.store place) ≡ wrote_at place o.writes) tag ((whole.live lsid o mine).own place));
           pending = holds.pending;
           sessions = recorded_now p q i.sessions lsid (in_state s (state.Committed at)) holds.sessions (ended_here p store lsid s (state.Committed at)) (ended_beside p store lsid s (state.Committed at)) (λ h. cc);
+          recorded = too_recorded p q i.sessions lsid (in_state s (state.Committed at)) holds.recorded (ended_here p store lsid s (state.Committed at)) (ended_beside p store lsid s (state.Committed at));
         };
         ceiling = refl;
         coord = refl;
@@ -283,6 +308,7 @@ module _ (i : Image) (p : Part) (last : ℕ) (m : Decide) (s : Session) (at coor
           store = ap (λ (v : Versions). decided s.tag (commit_time m.decision) v) holds.store ∙ decide_lasts m.decision;
           pending = ap (filter (λ (other : Pending). not (same_tag other.tag s.tag))) holds.pending;
           sessions = recorded_now p q i.sessions m.lsid new holds.sessions (entry_here m.lsid new p.sessions.entries) (λ x apart. entry_elsewhere x m.lsid apart new p.sessions.entries) (behind_never m.decision);
+          recorded = too_recorded p q i.sessions m.lsid new holds.recorded (entry_here m.lsid new p.sessions.entries) (λ x apart. entry_elsewhere x m.lsid apart new p.sessions.entries);
         };
         ceiling = refl;
         coord = refl;

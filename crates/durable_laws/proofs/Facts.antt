@@ -1,5 +1,5 @@
 -- What holds of each state of records, and a shard's state that its records hold, both ways.
-use Rattle.std.proofs.Common.{◌≡◌, ◌++◌, Bool, true, false, cond, List, [], ◌∷◌, find, Option, Some, None, All, option_map, refl, ap, subst, ◌∙◌, sym}
+use Rattle.std.proofs.Common.{◌≡◌, ◌++◌, Bool, true, false, cond, List, [], ◌∷◌, find, filter, Option, Some, None, All, option_map, option_and_then, refl, ap, subst, ◌∙◌, sym, if◌then◌else◌}
 use Rattle.std.proofs.lemmas.List.Elements.{All-nil, All-cons, All-head, All-tail}
 use Rattle.txn_types.specs.BySession.{BySession, entry_of}
 use Rattle.txn_types.specs.Order.{same_lsid, tag_cmp}
@@ -122,3 +122,34 @@ one_of_each P [] all lsid s has = cc
 one_of_each {A} P (entry ∷ entries) all lsid s has =
     found_case P lsid s entry entries (same_lsid lsid entry.0) refl (All-head (λ (entry : Lsid × A). P entry.0 entry.1) entry entries all)
     (one_of_each P entries (All-tail (λ (entry : Lsid × A). P entry.0 entry.1) entry entries all) lsid s) has
+
+-- The entries that pass a test.
+
+abbrev pub passed : (Session → Bool) → Option Session → Option Session
+passed test o = option_and_then (λ s. if test s then Some s else None) o
+
+left_case : (test : Session → Bool) (lsid : Lsid) (entry : Lsid × Session) (entries : BySession Session) (b c : Bool) → same_lsid lsid entry.0 ≡ b → test entry.1 ≡ c → AreApart (entry ∷ entries)
+    → entry_of lsid (filter (λ (e : Lsid × Session). test e.1) entries) ≡ passed test (entry_of lsid entries)
+    → entry_of lsid (cond c (entry ∷ filter (λ (e : Lsid × Session). test e.1) entries) (filter (λ (e : Lsid × Session). test e.1) entries))
+    ≡ passed test (option_map (λ (e : Lsid × Session). e.1) (cond b (Some entry) (find (λ (e : Lsid × Session). same_lsid lsid e.0) entries)))
+left_case test lsid entry entries true true is it apart more =
+    ap (λ b. option_map (λ (e : Lsid × Session). e.1) (cond b (Some entry) (find (λ (e : Lsid × Session). same_lsid lsid e.0) (filter (λ (e : Lsid × Session). test e.1) entries)))) is
+    ∙ ap (λ b. if b then Some entry.1 else None) (sym it)
+left_case test lsid entry entries false true is it apart more =
+    ap (λ b. option_map (λ (e : Lsid × Session). e.1) (cond b (Some entry) (find (λ (e : Lsid × Session). same_lsid lsid e.0) (filter (λ (e : Lsid × Session). test e.1) entries)))) is ∙ more
+left_case test lsid entry entries true false is it apart more =
+    let none : entry_of lsid entries ≡ None = ap (λ l. entry_of l entries) (lsid_same lsid entry.0 is) ∙ entry_none entry.0 entries apart.0 in
+    more ∙ ap (passed test) none ∙ ap (λ b. if b then Some entry.1 else None) (sym it)
+left_case test lsid entry entries false false is it apart more = more
+
+pub entry_left : (test : Session → Bool) (lsid : Lsid) (entries : BySession Session) → AreApart entries → entry_of lsid (filter (λ (e : Lsid × Session). test e.1) entries) ≡ passed test (entry_of lsid entries)
+entry_left test lsid [] apart = refl
+entry_left test lsid (entry ∷ entries) apart = left_case test lsid entry entries (same_lsid lsid entry.0) (test entry.1) refl refl apart (entry_left test lsid entries apart.1)
+
+some_case : (test : Session → Bool) (s t : Session) (b : Bool) → test s ≡ b → ◌≡◌ {A = Option Session} (if b then Some s else None) (Some t) → (s ≡ t) × (test t ≡ true)
+some_case test s t true it h = let one : s ≡ t = cc in (one, ap test (sym one) ∙ it)
+some_case test s t false it h = cc
+
+pub some_passed : (test : Session → Bool) (o : Option Session) (t : Session) → passed test o ≡ Some t → (o ≡ Some t) × (test t ≡ true)
+some_passed test None t h = cc
+some_passed test (Some s) t h = let both = some_case test s t (test s) refl h in (ap Some both.0, both.1)

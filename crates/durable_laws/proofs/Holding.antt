@@ -13,6 +13,7 @@ use Rattle.shard_image.specs.Image.{Image, with_record}
 use Rattle.shard_image.specs.Sound.{IsWritten}
 use Rattle.shard_core.specs.State.{ShardState}
 use Rattle.shard_core.specs.Durable.{HasSession, plans_of}
+use Rattle.durable_laws.specs.Backed.{AreRecorded}
 use Rattle.durable_laws.proofs.Whole.{IsWhole}
 
 -- what outlives a stop of the part is in it; it has no live transaction
@@ -21,6 +22,7 @@ pub record HoldsPart (i : Image) (p : Part) : Type 0 where
   pub store : i.store ≡ finished p.store
   pub pending : i.pending ≡ p.pending
   pub sessions : (lsid : Lsid) (recorded : Session) → session_of i.sessions lsid ≡ Some recorded → HasSession p lsid recorded × (recorded.state ≡ state.Live → ⊥)
+  pub recorded : AreRecorded i.sessions p
 
 -- behind a record, if there is one
 abbrev pub behind : Image → Option Rec → Image

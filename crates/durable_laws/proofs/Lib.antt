@@ -18,3 +18,4 @@ pub mod Backing
 pub mod Stepping
 pub mod Beginning
 pub mod Nodes
+pub mod Fitting

@@ -139,11 +139,11 @@ pub node_again : (n : NodeState) (recs : List Rec) (shard faults : ℕ) (m : Nod
 node_again n recs shard faults m h (inl is) go =
     let written : AreWritten recs = subst AreWritten (sym is) (written_front n.records n.hand h.written) in
     let backed : IsBacked recs h.kept.0 = subst (λ (r : List Rec). IsBacked r h.kept.0) (sym is) h.kept.1 in
-    (node_starts shard recs faults m written go, (h.kept.0, backed, start_finds shard recs faults m h.kept.0 backed.durable go))
+    (node_starts shard recs faults m written go, (h.kept.0, backed, start_finds shard recs faults m h.kept.0 backed go))
 node_again n recs shard faults m h (inr is) go =
     let written : AreWritten recs = subst AreWritten (sym is) h.written in
     let backed : IsBacked recs h.hand.0 = subst (λ (r : List Rec). IsBacked r h.hand.0) (sym is) h.hand.1 in
-    (node_starts shard recs faults m written go, (h.hand.0, backed, start_finds shard recs faults m h.hand.0 backed.durable go))
+    (node_starts shard recs faults m written go, (h.hand.0, backed, start_finds shard recs faults m h.hand.0 backed go))
 
 either_left : {A : Type 0} {recs now all : A} → (recs ≡ now) ⊎ (recs ≡ all) → all ≡ now → recs ≡ now
 either_left (inl is) same = is
@@ -163,4 +163,4 @@ left_backed old e room a new recs h runs (inr f) (inr is) = subst (λ (r : List 
 pub node_crashes : (old : NodeState) (e : NodeEvent) (a : NodeAnswer) (new : NodeState) (t : ShardTakes old e a new) → IsDurableNode old → old.core.stopped ≡ None → (recs : List Rec) (left : IsLeft new recs) (shard faults : ℕ) (m : NodeState) → started shard recs faults ≡ Some m
     → IsFoundAgain (left_state old (core_step t.0 old.core e) a new recs t.1 left) m.core
 node_crashes old e a new t h runs recs left shard faults m go =
-    start_finds shard recs faults m (left_state old (core_step t.0 old.core e) a new recs t.1 left) (left_backed old e t.0 a new recs h runs t.1 left).durable go
+    start_finds shard recs faults m (left_state old (core_step t.0 old.core e) a new recs t.1 left) (left_backed old e t.0 a new recs h runs t.1 left) go

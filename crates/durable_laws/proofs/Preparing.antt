@@ -43,7 +43,7 @@ use Rattle.durable_laws.proofs.Places.{newest_chain}
 use Rattle.durable_laws.proofs.Lasting.{finished_own}
 use Rattle.durable_laws.proofs.Beside.{Beside, beside_prepare}
 use Rattle.durable_laws.proofs.Closing.{live_kept, pending_kept, apart_with}
-use Rattle.durable_laws.proofs.Ends.{live_open, live_unfinished, none_pending, may_stamp, recorded_now}
+use Rattle.durable_laws.proofs.Ends.{live_open, live_unfinished, none_pending, may_stamp, recorded_now, too_recorded}
 
 -- a version's commit is as it was
 no_commit : (stamp : Stamp) (tag : Tag) → writer_of stamp ≡ Some tag → None ≡ commit_of stamp
@@ -195,6 +195,7 @@ module _ (i : Image) (p : Part) (last : ℕ) (lsid : Lsid) (s : Session) (o : Op
               (λ place. subst (λ t. own_at t (versions_of p.store place) ≡ wrote_at place o.writes) tag_is.0 ((whole.live lsid o mine).own place));
           pending = ap (λ xs. xs ++ x ∷ []) holds.pending;
           sessions = recorded_now p q i.sessions lsid now holds.sessions here elsewhere (λ h. cc);
+          recorded = too_recorded p q i.sessions lsid now holds.recorded here elsewhere;
         };
         ceiling = refl;
         coord = refl;

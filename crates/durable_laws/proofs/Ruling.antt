@@ -95,7 +95,7 @@ module _ (i : Image) (s : ShardState) (b : Backs i s) where
       either (nat_eq m.boot s.part.boot) (BacksRuled i) _ _ (
         record {
           whole = b.whole;
-          holds = record { boot = b.holds.boot; store = b.holds.store; pending = b.holds.pending; sessions = b.holds.sessions };
+          holds = record { boot = b.holds.boot; store = b.holds.store; pending = b.holds.pending; sessions = b.holds.sessions; recorded = b.holds.recorded };
           ceiling = b.ceiling;
           rises = rises_with m.tag (with_asker router (undecided (plan_of m))) s.coord b.rises;
           plans = plans_put m.tag (undecided (plan_of m)) i.coord ∙ ap (put tag_cmp m.tag (plan_of m, None)) b.plans ∙ sym (plans_put m.tag (with_asker router (undecided (plan_of m))) s.coord);
@@ -126,7 +126,7 @@ module _ (i : Image) (s : ShardState) (b : Backs i s) where
   votes_on_backed m c (Some d) there is = (
     record {
       whole = b.whole;
-      holds = record { boot = b.holds.boot; store = b.holds.store; pending = b.holds.pending; sessions = b.holds.sessions };
+      holds = record { boot = b.holds.boot; store = b.holds.store; pending = b.holds.pending; sessions = b.holds.sessions; recorded = b.holds.recorded };
       ceiling = b.ceiling;
       rises = rises_voted m.tag m.shard m.vote c s.coord b.rises;
       plans = record_decides m.tag d c i.coord s.coord b.plans there ∙ sym (vote_decides m.tag m.shard m.vote c s.coord d is);
@@ -142,7 +142,7 @@ module _ (i : Image) (s : ShardState) (b : Backs i s) where
   ack_case m c true there is = (
     record {
       whole = b.whole;
-      holds = record { boot = b.holds.boot; store = b.holds.store; pending = b.holds.pending; sessions = b.holds.sessions };
+      holds = record { boot = b.holds.boot; store = b.holds.store; pending = b.holds.pending; sessions = b.holds.sessions; recorded = b.holds.recorded };
       ceiling = b.ceiling;
       rises = rises_acked m.tag m.shard c s.coord b.rises;
       plans = plans_out m.tag i.coord ∙ ap (taken_out tag_cmp m.tag) b.plans ∙ sym (last_ack m.tag m.shard c s.coord is);

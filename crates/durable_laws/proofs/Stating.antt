@@ -47,7 +47,7 @@ use Rattle.durable_laws.proofs.Whole.{newest_commit, IsWhole}
 use Rattle.durable_laws.proofs.Holding.{HoldsPart, Left}
 use Rattle.durable_laws.proofs.Beside.{IsFree, commits_dropped}
 use Rattle.durable_laws.proofs.Lasting.{finished_end, finished_writes}
-use Rattle.durable_laws.proofs.Ends.{at_session, live_open, live_unfinished, abort_left, recorded_below, unrecorded}
+use Rattle.durable_laws.proofs.Ends.{at_session, live_open, live_unfinished, abort_left, recorded_below, unrecorded, still_recorded}
 use Rattle.durable_laws.proofs.Opening.{settles_whole, Had, had, opens_whole}
 
 -- An older live transaction of the session is ended first.
@@ -219,6 +219,7 @@ module _ (i : Image) (p : Part) (last wall : ℕ) (m : Statement) (whole : IsWho
           pending = holds.pending ∙ sym c.pending;
           sessions = unrecorded p q i.sessions m.lsid new holds.sessions (entry_here m.lsid new c.part.sessions.entries) (λ x apart. entry_elsewhere x m.lsid apart new c.part.sessions.entries ∙ c.sessions x apart)
               (λ recorded has was never. above_some p m recorded (session p m.lsid) refl above was never);
+          recorded = still_recorded p q i.sessions m.lsid new holds.recorded (entry_here m.lsid new c.part.sessions.entries) (λ x apart. entry_elsewhere x m.lsid apart new c.part.sessions.entries ∙ c.sessions x apart) refl;
         };
         ceiling = refl;
         coord = refl;
@@ -246,6 +247,7 @@ module _ (i : Image) (p : Part) (last wall : ℕ) (m : Statement) (whole : IsWho
           sessions = unrecorded p q i.sessions m.lsid (live_session m) holds.sessions (entry_here m.lsid (live_session m) c.part.sessions.entries)
               (λ x apart. entry_elsewhere x m.lsid apart (live_session m) c.part.sessions.entries ∙ c.sessions x apart)
               (λ recorded has was never. above_some p m recorded (session p m.lsid) refl above was never);
+          recorded = still_recorded p q i.sessions m.lsid (live_session m) holds.recorded (entry_here m.lsid (live_session m) c.part.sessions.entries) (λ x apart. entry_elsewhere x m.lsid apart (live_session m) c.part.sessions.entries ∙ c.sessions x apart) refl;
         };
         ceiling = refl;
         coord = refl;
@@ -268,6 +270,7 @@ module _ (i : Image) (p : Part) (last wall : ℕ) (m : Statement) (whole : IsWho
           pending = holds.pending;
           sessions = unrecorded p q i.sessions m.lsid (live_session m) holds.sessions (entry_here m.lsid (live_session m) p.sessions.entries) (λ x apart. entry_elsewhere x m.lsid apart (live_session m) p.sessions.entries)
               (λ recorded has was never. above_some p m recorded (session p m.lsid) refl above was never);
+          recorded = still_recorded p q i.sessions m.lsid (live_session m) holds.recorded (entry_here m.lsid (live_session m) p.sessions.entries) (λ x apart. entry_elsewhere x m.lsid apart (live_session m) p.sessions.entries) refl;
         };
         ceiling = refl;
         coord = refl;

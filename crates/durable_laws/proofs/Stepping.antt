@@ -1,5 +1,5 @@
 -- A step of a shard's core, and the records of its appends.
-use Rattle.std.proofs.Common.{◌≡◌, ◌≤◌, ◌<◌, ◌-◌, ◌^◌, ◌++◌, ℕ, max, Bool, true, false, List, [], ◌∷◌, Option, Some, None, IfSome, option_map, option_and_then, unwrap_or, refl, ap, subst, ◌∙◌, sym, arith, nat_lt, if◌then◌else◌}
+use Rattle.std.proofs.Common.{◌≡◌, ◌≤◌, ◌<◌, ◌-◌, ◌^◌, ◌++◌, ℕ, max, Bool, true, false, List, [], ◌∷◌, Option, Some, None, IfSome, option_map, option_and_then, unwrap_or, refl, ap, subst, ◌∙◌, sym, arith, nat_lt, if◌then◌else◌, inl, filter}
 use Rattle.txn_types.specs.Clock.{raised, advanced, reach, wanted_ceiling}
 use Rattle.txn_types.specs.declared.event.Happening.{Happening}
 use Rattle.txn_types.specs.declared.event.Happening.TheVariants as what
@@ -11,7 +11,7 @@ use Rattle.version_store.specs.Versions.{Versions, finished}
 use Rattle.journal_rec.specs.declared.record.Rec.{Rec}
 use Rattle.journal_rec.specs.declared.record.Rec.TheVariants as rec
 use Rattle.participant.specs.declared.said.Open.{Open}
-use Rattle.participant.specs.Part.{Part}
+use Rattle.participant.specs.Part.{Part, session}
 use Rattle.participant.specs.Expiry.{expire}
 use Rattle.participant.proofs.Cases.{either}
 use Rattle.shard_image.specs.Image.{Image, with_record, with_records, image_of}
@@ -22,10 +22,16 @@ use Rattle.shard_core.specs.Wanting.{wanting, Wanting, told_if, told_memory, may
 use Rattle.shard_core.specs.Core.{Room, Ample, Scarce, Short, CoreStep, core_step, step_if, stepped, stays, entered, happened, scarce, running_step, stopped_step}
 use Rattle.shard_core.specs.NodeStep.{NodeState, ceiling_append, record_append, appends_of, joined, Failed}
 use Rattle.durable_laws.proofs.Whole.{LiveHas, IsWhole}
-use Rattle.durable_laws.specs.Backed.{IsShard, IsBacked, at_ceiling, kept_state, lost_state}
+use Rattle.durable_laws.specs.Backed.{AreApart, is_recorded, AreRecorded, IsShard, IsBacked, at_ceiling, kept_state, lost_state}
 use Rattle.durable_laws.proofs.Holding.{behind, Backs}
 use Rattle.durable_laws.proofs.Events.{expire_kept}
-use Rattle.durable_laws.proofs.Facts.{image_append}
+use Rattle.durable_laws.proofs.Ends.{some_has}
+use Rattle.durable_laws.proofs.Facts.{image_append, passed, entry_left, some_passed}
+use Rattle.txn_types.specs.declared.node.Lsid.{Lsid}
+use Rattle.session_table.specs.Sessions.{Table, session_of}
+use Rattle.session_table.specs.declared.session.Session.{Session}
+use Rattle.session_table.specs.declared.session.SessionState.{SessionState}
+use Rattle.session_table.specs.declared.session.SessionState.TheVariants as state
 use Rattle.durable_laws.proofs.Backing.{shard_whole, backs_shard, to_backs, from_backs}
 use Rattle.durable_laws.proofs.Ruling.{with_left, ruled_backed, told_backed}
 
@@ -64,7 +70,7 @@ met_case i s far time read_at true is ends b =
     let above : s.clock.ceiling < far = grind (arith, is) in
     record {
       whole = whole_later s.part s.clock.last (max (max s.clock.last time) read_at) (grind arith) b.whole;
-      holds = record { boot = b.holds.boot; store = b.holds.store; pending = b.holds.pending; sessions = b.holds.sessions };
+      holds = record { boot = b.holds.boot; store = b.holds.store; pending = b.holds.pending; sessions = b.holds.sessions; recorded = b.holds.recorded };
       ceiling = grind arith;
       rises = b.rises;
       plans = b.plans;
@@ -174,7 +180,7 @@ ceiling_case i s None b = record { whole = b.whole; holds = b.holds; ceiling = b
 ceiling_case i s (Some bound) b =
     record {
       whole = b.whole;
-      holds = record { boot = b.holds.boot; store = b.holds.store; pending = b.holds.pending; sessions = b.holds.sessions };
+      holds = record { boot = b.holds.boot; store = b.holds.store; pending = b.holds.pending; sessions = b.holds.sessions; recorded = b.holds.recorded };
       ceiling = refl;
       rises = b.rises;
       plans = b.plans;
@@ -238,18 +244,41 @@ fault_is_backed old e room a new f b =
           (subst (λ (x : Image). Backs x (lost_state old.core o f.rest)) (sym (image_append old.records (joined f.kept ++ f.lost))) fronts.1)),
     )
 
--- Without records: those of a state that had none but this one.
+-- Without records: as if there had been some of just what outlives a stop.
+
+recorded_of : Part → Table
+recorded_of p = record { limit = 0; entries = filter (λ (e : Lsid × Session). is_recorded e.1.state) p.sessions.entries }
+
+recorded_there : (p : Part) → AreApart p.sessions.entries → (lsid : Lsid) (t : Session) → session_of (recorded_of p) lsid ≡ Some t → (session p lsid ≡ Some t) × (is_recorded t.state ≡ true)
+unfolding recorded_of
+recorded_there p apart lsid t has = some_passed (λ s. is_recorded s.state) (session p lsid) t (sym (entry_left (λ s. is_recorded s.state) lsid p.sessions.entries apart) ∙ has)
+
+recorded_here : (p : Part) → AreApart p.sessions.entries → AreRecorded (recorded_of p) p
+unfolding recorded_of
+recorded_here p apart lsid t there told =
+    entry_left (λ s. is_recorded s.state) lsid p.sessions.entries apart ∙ ap (passed (λ s. is_recorded s.state)) there ∙ ap (λ b. if b then Some t else None) told
+
+never_live : (st : SessionState) → is_recorded st ≡ true → st ≡ state.Live → ⊥
+never_live st told live = let wrong : true ≡ false = sym told ∙ ap is_recorded live in cc
 
 image_like : ShardState → Image
 image_like s =
-    record { boot = s.part.boot; ceiling = s.clock.ceiling; store = finished s.part.store; sessions = record { limit = 0; entries = [] }; pending = s.part.pending; coord = s.coord; count = 0; greatest = 0 }
+    record { boot = s.part.boot; ceiling = s.clock.ceiling; store = finished s.part.store; sessions = recorded_of s.part; pending = s.part.pending; coord = s.coord; count = 0; greatest = 0 }
 
 like_backs : (s : ShardState) → IsShard s → Backs (image_like s) s
 unfolding image_like
 like_backs s h =
     record {
       whole = shard_whole s h;
-      holds = record { boot = refl; store = refl; pending = refl; sessions = λ lsid recorded has. cc };
+      holds = record {
+        boot = refl;
+        store = refl;
+        pending = refl;
+        sessions = λ lsid recorded has.
+            let there = recorded_there s.part h.apart lsid recorded has in
+            (some_has s.part lsid recorded recorded there.0 (inl refl), never_live recorded.state there.1);
+        recorded = recorded_here s.part h.apart;
+      };
       ceiling = refl;
       rises = h.rises;
       plans = refl;

@@ -1,15 +1,21 @@
 -- A shard's state that its records hold.
-use Rattle.std.specs.Prelude.{◌≡◌, ◌⊎◌, ◌≤◌, ◌+◌, false, List, [], ◌∷◌, ◌++◌, None, All, unwrap_or}
+use Rattle.std.specs.Prelude.{◌≡◌, ◌⊎◌, ◌≤◌, ◌+◌, Bool, true, false, List, [], ◌∷◌, ◌++◌, Some, None, All, unwrap_or}
 use Rattle.std.proofs.Common.{inl, inr}
 use Rattle.txn_types.specs.BySession.{BySession}
 use Rattle.txn_types.specs.Order.{same_lsid, tag_cmp}
 use Rattle.txn_semantics.specs.Keyed.{Rises}
+use Rattle.txn_types.specs.declared.node.Lsid.{Lsid}
+use Rattle.session_table.specs.Sessions.{Table, session_of}
 use Rattle.session_table.specs.declared.session.Session.{Session}
+use Rattle.session_table.specs.declared.session.SessionState.{SessionState}
+use Rattle.session_table.specs.declared.session.SessionState.TheVariants as state
 use Rattle.version_store.specs.Versions.{finished}
 use Rattle.journal_rec.specs.declared.record.Rec.{Rec}
+use Rattle.participant.specs.Part.{Part, session}
 use Rattle.participant.specs.Sound.{IsPart}
 use Rattle.participant.specs.Stands.{Stands}
 use Rattle.part_laws.specs.Each.{Each}
+use Rattle.shard_image.specs.Image.{image_of}
 use Rattle.shard_image.specs.Sound.{AreWritten}
 use Rattle.txn_types.specs.declared.event.NodeAnswer.{NodeAnswer}
 use Rattle.shard_core.specs.State.{ShardState}
@@ -31,10 +37,23 @@ pub record IsShard (s : ShardState) : Type 0 where
   pub apart : AreApart s.part.sessions.entries
   pub rises : Rises tag_cmp s.coord
 
+-- an outcome that is told only once its record is durable
+abbrev pub is_recorded : SessionState → Bool
+is_recorded state.Live = false
+is_recorded (state.Prepared at coordinator) = true
+is_recorded (state.Committed at) = true
+is_recorded state.Released = false
+is_recorded (state.Aborted why read_at) = false
+
+-- each prepared or committed transaction of a session stands in this table as it does here
+abbrev pub AreRecorded : Table → Part → Type 0
+AreRecorded table p = (lsid : Lsid) (s : Session) → session p lsid ≡ Some s → is_recorded s.state ≡ true → session_of table lsid ≡ Some s
+
 -- and the records hold it
 pub record IsBacked (recs : List Rec) (s : ShardState) : Type 0 where
   pub shard : IsShard s
   pub durable : AreRecordsOf recs s
+  pub recorded : AreRecorded (image_of recs).sessions s.part
 
 -- Where an append fails.
 
@@ -63,6 +82,7 @@ pub record IsFoundAgain (old new : ShardState) : Type 0 where
   pub live : new.part.live ≡ []
   pub coord : plans_of new.coord ≡ plans_of old.coord
   pub sessions : All (λ entry. HasSession old.part entry.0 entry.1) new.part.sessions.entries
+  pub recorded : AreRecorded new.part.sessions old.part
   pub stopped : new.stopped ≡ None
 
 -- Nodes.

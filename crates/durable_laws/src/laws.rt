@@ -2,12 +2,14 @@
 ghost use Rattle.std.specs.Prelude.{◌≡◌, ◌++◌, ℕ, List, [], Some, None};
 ghost use Rattle.txn_types.specs.declared.event.NodeAnswer.{NodeAnswer};
 ghost use Rattle.txn_types.specs.declared.event.NodeEvent.{NodeEvent};
+ghost use Rattle.journal_rec.specs.Follows as journal;
 ghost use Rattle.journal_rec.specs.declared.record.Rec.{Rec};
 ghost use Rattle.shard_image.specs.Sound.{AreWritten};
 ghost use Rattle.shard_core.specs.State.{ShardState};
 ghost use Rattle.shard_core.specs.Core.{Room, core_step};
 ghost use Rattle.shard_core.specs.NodeStep.{NodeState, appends_of, joined, Failed, ShardTakes, started};
-ghost use Rattle.shard_core.specs.Durable.{AreRecordsOf};
+ghost use Rattle.shard_core.specs.Laws.{Fits};
+ghost use Rattle.durable_laws.specs.Fitting.{AreOrdered};
 ghost use Rattle.durable_laws.specs.Backed.{IsShard, IsBacked, kept_state, lost_state, IsFoundAgain, IsDurableNode, IsLeft, left_state};
 
 /// A shard's part stays of one piece behind each step, whatever the event names: statement, commit, preparation, decision,
@@ -35,7 +37,7 @@ pub fn a_failed_append_is_durable()
 /// next boot and the clock at the last ceiling. Whatever records it takes, its own hold its state, and its part is
 /// whole. It takes an empty journal.
 pub fn a_start_is_durable()
-    ensures found { (shard : ℕ) (recs : List Rec) (faults : ℕ) (n : NodeState) (s : ShardState) → AreRecordsOf recs s → started shard recs faults ≡ Some n → IsFoundAgain s n.core }
+    ensures found { (shard : ℕ) (recs : List Rec) (faults : ℕ) (n : NodeState) (s : ShardState) → IsBacked recs s → started shard recs faults ≡ Some n → IsFoundAgain s n.core }
     ensures backed { (shard : ℕ) (recs : List Rec) (faults : ℕ) (n : NodeState) → AreWritten recs → started shard recs faults ≡ Some n → IsBacked n.records n.core }
     ensures first { (shard faults : ℕ) → (n : NodeState) × (started shard [] faults ≡ Some n) × IsBacked n.records n.core }
 {}
@@ -50,4 +52,10 @@ pub fn a_node_is_durable()
         → IsDurableNode m × ((s : ShardState) × IsBacked recs s × IsFoundAgain s m.core) }
     ensures crash { (old : NodeState) (e : NodeEvent) (a : NodeAnswer) (new : NodeState) (t : ShardTakes old e a new) → IsDurableNode old → old.core.stopped ≡ None → (recs : List Rec) (left : IsLeft new recs) (shard faults : ℕ) (m : NodeState) → started shard recs faults ≡ Some m
         → IsFoundAgain (left_state old (core_step t.0 old.core e) a new recs t.1 left) m.core }
+{}
+
+/// Records that hold a shard's state, each of which could follow those before it, fit the state: its next record can
+/// follow them, where no time among them and no vote is above the clock.
+pub fn records_fit_their_shard()
+    ensures { (recs : List Rec) (s : ShardState) → IsBacked recs s → AreOrdered recs s → Fits (journal.ledger_of recs) s }
 {}
