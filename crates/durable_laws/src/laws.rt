@@ -1,4 +1,4 @@
-//! A law is the contract of a function with an empty body.
+//! Laws of a shard's step, its records and its node: a law is the contract of a function with an empty body.
 ghost use Rattle.std.specs.Prelude.{◌≡◌, ◌++◌, ℕ, List, [], Some, None};
 ghost use Rattle.txn_types.specs.declared.event.NodeAnswer.{NodeAnswer};
 ghost use Rattle.txn_types.specs.declared.event.NodeEvent.{NodeEvent};
@@ -34,8 +34,8 @@ pub fn a_failed_append_is_durable()
 {}
 
 /// A start finds the shard again: from records that hold a state it leaves what outlives a stop of that state, with the
-/// next boot and the clock at the last ceiling. Whatever records it takes, its own hold its state, and its part is
-/// whole. It takes an empty journal.
+/// next boot and the clock at the last ceiling. Whatever records it takes, its own hold its state, which is of one piece.
+/// It takes an empty journal.
 pub fn a_start_is_durable()
     ensures found { (shard : ℕ) (recs : List Rec) (faults : ℕ) (n : NodeState) (s : ShardState) → IsBacked recs s → started shard recs faults ≡ Some n → IsFoundAgain s n.core }
     ensures backed { (shard : ℕ) (recs : List Rec) (faults : ℕ) (n : NodeState) → AreWritten recs → started shard recs faults ≡ Some n → IsBacked n.records n.core }
