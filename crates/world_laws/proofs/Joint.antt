@@ -24,6 +24,8 @@ use Rattle.world_laws.specs.Tags.{BeginsNamed, PlansNamed}
 use Rattle.world_laws.specs.Joint.{Stands, NoName, DiskStands, DisksStand}
 use Rattle.world_laws.proofs.NodeRecords.{records_kept, starts_recorded}
 use Rattle.world_laws.specs.Recorded.{RestsOn, NodeRecorded}
+use Rattle.world_laws.specs.Boots.{EnvBoots, NodeTold, BootStands, HasBooted}
+use Rattle.world_laws.proofs.Boots.{boots_step, starts_boots, router_fresh_boots}
 use Rattle.world_laws.proofs.Once.{once_step, tags_all, once_fresh, tags_fresh}
 use Rattle.world_laws.proofs.Clocks.{clocks_step, starts_clock, started_is, ceiling_on}
 use Rattle.world_laws.proofs.ReadTimes.{reads_step, starts_reads}
@@ -42,6 +44,7 @@ stands_step old ran new h s =
       begun = once_step old ran new h s.plans s.tags s.begun;
       tags = tags_all old ran new h s.plans s.begun s.tags;
       recorded = records_kept old ran new h asks s.reads reads s.recorded;
+      boots = boots_step old ran new h s.reads s.boots;
     }
 
 pub stands_run : (old : Nodes) (run : List Ran) (trace : List Nodes) (new : Nodes) → IsTrace old run trace new → Stands old → Stands new
@@ -74,12 +77,13 @@ begins_more P (rec.CoordDecision tag d) h = tt
 begins_more P (rec.CoordEnd tag) h = tt
 begins_more P (rec.Floor floor) h = tt
 
-starts_all : (P : Named → Type 0) (nodes : Nodes) (number : ℕ) (recs : List Rec) (faults : ℕ) (n : NodeState) → started number recs faults ≡ Some n → slice_get nodes.shards number ≡ Some n → DiskStands nodes n.records → ClockStands n × NodeReads number n × PlansNamed P n × NodeRecorded nodes n
+starts_all : (P : Named → Type 0) (nodes : Nodes) (number : ℕ) (recs : List Rec) (faults : ℕ) (n : NodeState) → started number recs faults ≡ Some n → slice_get nodes.shards number ≡ Some n → DiskStands nodes n.records → ClockStands n × NodeReads number n × PlansNamed P n × NodeRecorded nodes n × (BootStands n × NodeTold (HasBooted nodes) n)
 starts_all P nodes number recs faults n is there d = (
   starts_clock number recs faults n is d.ceiling,
   (starts_reads number recs faults n is (front_of (RecBehind (last_ceiling recs)) number recs faults n is (subst (λ (k : ℕ). All (RecBehind k) n.records) (same_ceiling number recs faults n is) d.times))).0,
   starts_named P number recs faults n is (All-weaker (BeginsNamed NoName) (BeginsNamed P) (begins_more P) recs (front_of (BeginsNamed NoName) number recs faults n is d.begins)),
   starts_recorded nodes number recs faults n there is (front_of (RestsOn (HasCommit nodes)) number recs faults n is d.rests),
+  starts_boots nodes number recs faults n is (front_of (BeginsNamed NoName) number recs faults n is d.begins),
 )
 
 router_fresh : (chunks : Map) (nodes : Nodes) → IsFresh chunks nodes → (number : ℕ) (r : RouterState) → slice_get nodes.routers number ≡ Some r → RouterAsks r
@@ -102,6 +106,11 @@ stands_fresh chunks nodes h d =
       recorded = record {
         shards = λ number n e. (at number n e).3;
         sent = subst (All (λ (e : Envelope). IsRecorded nodes e.msg)) (sym h.sent) (All-nil (λ (e : Envelope). IsRecorded nodes e.msg));
+      };
+      boots = record {
+        shards = λ number n e. (at number n e).4;
+        routers = router_fresh_boots chunks nodes h;
+        sent = subst (All (EnvBoots (HasBooted nodes))) (sym h.sent) (All-nil (EnvBoots (HasBooted nodes)));
       };
     }
 

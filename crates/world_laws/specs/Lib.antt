@@ -7,3 +7,4 @@ pub mod Asking
 pub mod Joint
 pub mod Begins
 pub mod Recorded
+pub mod Boots

@@ -13,6 +13,7 @@ ghost use Rattle.world_laws.specs.ReadTimes.{ReadsStand, RoutersAsk};
 ghost use Rattle.world_laws.specs.Begins.{AllBegunOnce};
 ghost use Rattle.world_laws.specs.Recorded.{RecordsStand};
 ghost use Rattle.world_laws.specs.Tags.{AllPlansNamed};
+ghost use Rattle.world_laws.specs.Boots.{BootsStand};
 
 /// A running shard's clock is at or below its last ceiling, behind each event.
 pub fn clocks_stay_below_their_ceilings()
@@ -51,6 +52,13 @@ pub fn tags_are_begun_once()
 pub fn what_is_told_is_recorded()
     ensures step { (old : Nodes) (ran : Ran) (new : Nodes) → Happens old ran new → RoutersAsk ran → ReadsStand old → ReadsStand new → RecordsStand old → RecordsStand new }
     ensures part { (nodes : Nodes) → RecordsStand nodes → CommitsRecorded nodes }
+{}
+
+/// No message has a boot above that of the shard that it is of, but for a token's, behind each event. What routers have of the
+/// shards that take part, and what shards coordinate and record, stands beside it, with each shard's boot, which is that of its
+/// records.
+pub fn boots_stay_behind()
+    ensures { (old : Nodes) (ran : Ran) (new : Nodes) → Happens old ran new → ReadsStand old → BootsStand old → BootsStand new }
 {}
 
 /// All of this stands behind each event, and so behind each run, where it stood before. It stands of nodes that have started
