@@ -6,3 +6,4 @@ pub mod ReadTimes
 pub mod Asking
 pub mod Joint
 pub mod Begins
+pub mod Recorded
