@@ -1,0 +1,5 @@
+pub mod Lists
+pub mod Numbers
+pub mod Turning
+pub mod Ruling
+pub mod Stepping
