@@ -3,3 +3,4 @@ pub mod Numbers
 pub mod Turning
 pub mod Ruling
 pub mod Stepping
+pub mod Starting
