@@ -4,17 +4,24 @@ mod Naming
 mod Effects
 mod Steps
 mod Ceilings
-mod Clocks
+pub mod Clocks
 mod Records
 mod Tags
 mod PartTimes
 mod RuledTimes
 mod StepTimes
-mod ReadTimes
+pub mod ReadTimes
 mod Asking
 mod RouterSteps
+mod Booting
 mod Deeds
 mod Going
 mod Beginning
-mod Once
-mod Joint
+pub mod Once
+mod PartRecords
+mod RuledRecords
+mod StepRecords
+pub mod NodeRecords
+mod BootSteps
+pub mod Boots
+pub mod Joint

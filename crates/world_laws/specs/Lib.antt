@@ -6,3 +6,5 @@ pub mod ReadTimes
 pub mod Asking
 pub mod Joint
 pub mod Begins
+pub mod Recorded
+pub mod Boots

@@ -25,11 +25,12 @@ pub record ReadsStand (nodes : Nodes) : Type 0 where
   pub times : All (λ e. MsgBehind e.time e.msg) nodes.sent
   pub answers : All (AnswersBehind nodes) nodes.sent
 
--- a message of no shard: it answers nothing, and votes and decides nothing
+-- a message of no shard: it answers nothing, votes and decides nothing, and tells no outcome
 abbrev pub IsAsked : Msg → Type 0
 IsAsked (msg.Answer a) = ⊥
 IsAsked (msg.Vote v) = ⊥
 IsAsked (msg.Decide d) = ⊥
+IsAsked (msg.Outcome o) = ⊥
 IsAsked other = Unit {0}
 
 -- what a router sends is no message of a shard

@@ -5,13 +5,15 @@ ghost use Rattle.shard_core.specs.NodeStep.{NodeState, started};
 ghost use Rattle.txn_model.specs.declared.ran.Ran.{Ran};
 ghost use Rattle.cluster_core.specs.Nodes.{Nodes};
 ghost use Rattle.cluster_core.specs.Trace.{Happens, IsTrace, IsFresh};
-ghost use Rattle.cluster_core.specs.Parts.{ClockBelowCeiling, ReadsBehind, TagsBegunOnce};
+ghost use Rattle.cluster_core.specs.Parts.{ClockBelowCeiling, ReadsBehind, TagsBegunOnce, CommitsRecorded};
 ghost use Rattle.world_laws.specs.Clocks.{ClocksStand};
 ghost use Rattle.world_laws.specs.Asking.{AllRoutersAsk};
 ghost use Rattle.world_laws.specs.Joint.{Stands, DiskStands, DisksStand};
 ghost use Rattle.world_laws.specs.ReadTimes.{ReadsStand, RoutersAsk};
 ghost use Rattle.world_laws.specs.Begins.{AllBegunOnce};
+ghost use Rattle.world_laws.specs.Recorded.{RecordsStand};
 ghost use Rattle.world_laws.specs.Tags.{AllPlansNamed};
+ghost use Rattle.world_laws.specs.Boots.{BootsStand};
 
 /// A running shard's clock is at or below its last ceiling, behind each event.
 pub fn clocks_stay_below_their_ceilings()
@@ -45,11 +47,26 @@ pub fn tags_are_begun_once()
     ensures tags { (old : Nodes) (ran : Ran) (new : Nodes) → Happens old ran new → AllPlansNamed old → AllBegunOnce old → TagsBegunOnce old → TagsBegunOnce new }
 {}
 
+/// What is told as committed has its record: a vote with a time the record that prepares, and a commit that was told its own record
+/// or its coordinator's decision, behind each event. What shards hold of it stands beside it.
+pub fn what_is_told_is_recorded()
+    ensures step { (old : Nodes) (ran : Ran) (new : Nodes) → Happens old ran new → RoutersAsk ran → ReadsStand old → ReadsStand new → RecordsStand old → RecordsStand new }
+    ensures part { (nodes : Nodes) → RecordsStand nodes → CommitsRecorded nodes }
+{}
+
+/// No message has a boot above that of the shard that it is of, but for a token's, behind each event. What routers have of the
+/// shards that take part, and what shards coordinate and record, stands beside it, with each shard's boot, which is that of its
+/// records.
+pub fn boots_stay_behind()
+    ensures { (old : Nodes) (ran : Ran) (new : Nodes) → Happens old ran new → ReadsStand old → BootsStand old → BootsStand new }
+{}
+
 /// All of this stands behind each event, and so behind each run, where it stood before. It stands of nodes that have started
-/// where their disks' records have no time above their last ceiling and begin no commit of several shards; a new disk's do.
+/// where their disks' records have no time above their last ceiling, begin no commit of several shards, and have the record of each
+/// commit that they apply; a new disk's do.
 pub fn each_run_keeps_what_stands()
     ensures step { (old : Nodes) (ran : Ran) (new : Nodes) → Happens old ran new → Stands old → Stands new }
     ensures run { (old : Nodes) (run : List Ran) (trace : List Nodes) (new : Nodes) → IsTrace old run trace new → Stands old → Stands new }
     ensures fresh { (chunks : Map) (nodes : Nodes) → IsFresh chunks nodes → DisksStand nodes → Stands nodes }
-    ensures disk { (number faults : ℕ) (n : NodeState) → started number [] faults ≡ Some n → DiskStands n.records }
+    ensures disk { (nodes : Nodes) (number faults : ℕ) (n : NodeState) → started number [] faults ≡ Some n → DiskStands nodes n.records }
 {}

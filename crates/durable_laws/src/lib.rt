@@ -1,0 +1,4 @@
+//! Laws of a shard: what its journal's records hold of it stays so behind each step, and a start from them finds it again.
+#![tactic(auto)]
+
+pub mod laws;

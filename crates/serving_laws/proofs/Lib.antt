@@ -1,0 +1,6 @@
+pub mod Lists
+pub mod Numbers
+pub mod Turning
+pub mod Ruling
+pub mod Stepping
+pub mod Starting
