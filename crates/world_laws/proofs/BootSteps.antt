@@ -1,5 +1,5 @@
 -- A shard's step: the boots in what it coordinates, records and sends are its own, or those of the message.
-use Rattle.std.proofs.Common.{◌≡◌, inl, ◌≤◌, ℕ, ℤ, max, nat_eq, map, All, List, [], ◌∷◌, Option, Some, None, IfSome, option_map, option_and_then, unwrap_or, is_some, not, Result, Ok, Err, refl, sym, subst, ◌∙◌}
+use Rattle.std.proofs.Common.{◌≡◌, ℕ, ℤ, max, nat_eq, map, All, List, [], ◌∷◌, Option, Some, None, IfSome, option_map, option_and_then, unwrap_or, is_some, not, Result, Err, refl, sym, subst}
 use Rattle.std.proofs.lemmas.List.Elements.{All-nil, All-head, All-tail, All-append, All-map, All-filter}
 use Rattle.txn_types.specs.Letters.{Letter, sent_by}
 use Rattle.txn_types.specs.Order.{same_tag, tag_cmp}
@@ -14,7 +14,6 @@ use Rattle.txn_types.specs.declared.event.NodeEvent.{NodeEvent}
 use Rattle.txn_types.specs.declared.message.Acked.{Acked}
 use Rattle.txn_types.specs.declared.message.Answer.{Answer}
 use Rattle.txn_types.specs.declared.message.CommitTwo.{CommitTwo}
-use Rattle.txn_types.specs.declared.message.Envelope.{Envelope}
 use Rattle.txn_types.specs.declared.message.Msg.{Msg}
 use Rattle.txn_types.specs.declared.message.Msg.TheVariants as msg
 use Rattle.txn_types.specs.declared.message.Outcome.{Outcome}
@@ -32,7 +31,7 @@ use Rattle.journal_rec.specs.declared.record.Decided.{Decided}
 use Rattle.journal_rec.specs.declared.record.Rec.{Rec}
 use Rattle.journal_rec.specs.declared.record.Rec.TheVariants as rec
 use Rattle.coordinator.specs.declared.plan.Plan.{Plan}
-use Rattle.coordinator.specs.TwoPhase.{Coordinated, Coordinations, coordinated_of, decided_by, with_asker, undecided, counts, voted, behind_vote, acked, ack_counts, all_acked, with_ack, has_voted, has_acked, prepare_to, decide_to, prepares, decides, resends, resends_by, is_last_ack}
+use Rattle.coordinator.specs.TwoPhase.{Coordinated, Coordinations, coordinated_of, decided_by, with_asker, undecided, counts, voted, behind_vote, acked, ack_counts, all_acked, with_ack, has_voted, prepare_to, decide_to, resends, resends_by, is_last_ack}
 use Rattle.participant.specs.declared.said.Said.{Said}
 use Rattle.participant.specs.declared.said.Said.TheVariants.{Did, Blocked, Refused, Late}
 use Rattle.participant.specs.Part.{Part, session, elsewhere, aborted}
@@ -52,8 +51,8 @@ use Rattle.shard_core.specs.Wanting.{wanting, Wanting, told_if, told_memory, may
 use Rattle.shard_core.specs.Core.{Room, Ample, Scarce, Short, CoreStep, core_step, step_if, stepped, stays, entered, happened, scarce, running_step, stopped_step, answer_stopped, says_stopped, gives_out, answer_of}
 use Rattle.cluster_core.specs.Naming.{given_out}
 use Rattle.world_laws.specs.Effect.{Same}
-use Rattle.world_laws.specs.Boots.{PartsTold, AskedBoots, ToldBoots, BootsTo, LetterBoots, EnvBoots, BootsBy, CoordinatedTold, PlansTold, BeginsTold}
-use Rattle.world_laws.proofs.Numbers.{statement_same, recover_same, decide_as, commit_as, prepare_as, CommitsAt, PreparesAt, expire_same, memory_same}
+use Rattle.world_laws.specs.Boots.{PartsTold, AskedBoots, BootsTo, LetterBoots, EnvBoots, BootsBy, CoordinatedTold, PlansTold, BeginsTold}
+use Rattle.world_laws.proofs.Numbers.{statement_same, recover_same, commit_as, prepare_as, CommitsAt, PreparesAt, expire_same}
 use Rattle.world_laws.proofs.Naming.{one, each, put_all, taken_all, found, vote_plan}
 
 abbrev Party : (ℕ → ℕ → Type 0) → ℕ × ℕ → Type 0

@@ -17,11 +17,10 @@ use Rattle.std.specs.Ordering.{nat_cmp, is_lt}
 use Rattle.std.specs.Prelude.{flat_map}
 use Rattle.std.specs.List.{range_with_len}
 use Rattle.txn_semantics.specs.Keyed.{put}
-use Rattle.txn_types.specs.Letters.{Letter, sent_by}
+use Rattle.txn_types.specs.Letters.{sent_by}
 use Rattle.txn_types.specs.declared.event.Happening.{Happening}
 use Rattle.txn_types.specs.declared.event.Happening.TheVariants as what
 use Rattle.txn_types.specs.declared.event.NodeEvent.{NodeEvent}
-use Rattle.txn_types.specs.declared.message.Envelope.{Envelope}
 use Rattle.txn_types.specs.declared.message.Msg.{Msg}
 use Rattle.txn_types.specs.declared.message.Msg.TheVariants as msg
 use Rattle.txn_types.specs.declared.node.NodeId.TheVariants.{Router}
@@ -54,7 +53,7 @@ use Rattle.router_state.specs.declared.state.Seeking.{Seeking}
 use Rattle.router_state.specs.declared.state.Doing.{Doing}
 use Rattle.router_state.specs.declared.state.Doing.TheVariants.{Begun, Sought}
 use Rattle.router_state.specs.declared.state.Session.{Session}
-use Rattle.router_state.specs.State.{Post, RouterState, asker_of, is_from, commit_sent, is_unfinished, is_waited, is_own, without, token_of, session_of, own_session}
+use Rattle.router_state.specs.State.{Post, RouterState, asker_of, is_from, commit_sent, is_unfinished, is_waited, is_own, without, token_of, session_of}
 use Rattle.router_state.specs.declared.deed.Given.{Given}
 use Rattle.router_state.specs.declared.deed.Deed.{Deed}
 use Rattle.router_state.specs.Deeds.{nothing, aborting, telling, told, both, in_session, Move, still, done_in, each_session}

@@ -27,24 +27,23 @@ use Rattle.router_core.specs.Step.{RouterTakes}
 use Rattle.shard_image.specs.Image.{Image, image_of, empty_image, decided_if}
 use Rattle.shard_image.specs.Image as image
 use Rattle.shard_core.specs.State.{ShardState}
-use Rattle.shard_core.specs.Core.{Room, CoreStep, core_step}
+use Rattle.shard_core.specs.Core.{CoreStep, core_step}
 use Rattle.shard_core.specs.NodeStep.{NodeState, ShardTakes, Appended, Failed, boot_behind, started}
 use Rattle.txn_model.specs.declared.ran.Ran.{Ran}
 use Rattle.txn_model.specs.declared.ran.Ran.TheVariants.{Step, Swapped}
-use Rattle.cluster_core.specs.Naming.{Named, given_out}
+use Rattle.cluster_core.specs.Naming.{given_out}
 use Rattle.cluster_core.specs.Nodes.{Nodes}
-use Rattle.cluster_core.specs.Parts.{AtShard}
 use Rattle.cluster_core.specs.Trace.{Happens, IsFresh, MayCome, MayRemain, again}
-use Rattle.world_laws.specs.Effect.{Same, MayRecord, StepRecords}
+use Rattle.world_laws.specs.Effect.{MayRecord, StepRecords}
 use Rattle.world_laws.specs.Clocks.{EachShard}
 use Rattle.world_laws.specs.Tags.{BeginsNamed}
 use Rattle.world_laws.specs.Joint.{NoName}
 use Rattle.world_laws.specs.ReadTimes.{ReadsStand}
-use Rattle.world_laws.specs.Boots.{PartsTold, AskedBoots, ToldBoots, BootsTo, EnvBoots, BootsBy, PostBoots, AllBoots, DoingBoots, RouterBoots, CoordinatedTold, PlansTold, BeginsTold, NodeTold, IsNoBoot, BootStands, HasBooted, BootsStand}
+use Rattle.world_laws.specs.Boots.{PartsTold, AskedBoots, ToldBoots, BootsTo, EnvBoots, BootsBy, PostBoots, DoingBoots, RouterBoots, CoordinatedTold, PlansTold, BeginsTold, NodeTold, IsNoBoot, BootStands, HasBooted, BootsStand}
 use Rattle.world_laws.proofs.Lists.{get_set}
 use Rattle.world_laws.proofs.Naming.{one, put_all, taken_all, found}
 use Rattle.world_laws.proofs.Going.{some_same}
-use Rattle.world_laws.proofs.Records.{records_step, Added, added_step}
+use Rattle.world_laws.proofs.Records.{records_step, added_step}
 use Rattle.world_laws.proofs.Steps.{step_does}
 use Rattle.world_laws.proofs.Clocks.{Any, started_is, each_set, each_same}
 use Rattle.world_laws.proofs.Booting.{Zero, router_boots}

@@ -26,6 +26,7 @@ use Rattle.world_laws.proofs.NodeRecords.{records_kept, starts_recorded}
 use Rattle.world_laws.specs.Recorded.{RestsOn, NodeRecorded}
 use Rattle.world_laws.specs.Boots.{EnvBoots, NodeTold, BootStands, HasBooted}
 use Rattle.world_laws.proofs.Boots.{boots_step, starts_boots, router_fresh_boots}
+use Rattle.world_laws.proofs.Above.{resolved_step, starts_resolved}
 use Rattle.world_laws.proofs.Once.{once_step, tags_all, once_fresh, tags_fresh}
 use Rattle.world_laws.proofs.Clocks.{clocks_step, starts_clock, started_is, ceiling_on}
 use Rattle.world_laws.proofs.ReadTimes.{reads_step, starts_reads}
@@ -45,6 +46,7 @@ stands_step old ran new h s =
       tags = tags_all old ran new h s.plans s.begun s.tags;
       recorded = records_kept old ran new h asks s.reads reads s.recorded;
       boots = boots_step old ran new h s.reads s.boots;
+      resolved = resolved_step old ran new h s.clocks s.resolved;
     }
 
 pub stands_run : (old : Nodes) (run : List Ran) (trace : List Nodes) (new : Nodes) → IsTrace old run trace new → Stands old → Stands new
@@ -112,6 +114,7 @@ stands_fresh chunks nodes h d =
         routers = router_fresh_boots chunks nodes h;
         sent = subst (All (EnvBoots (HasBooted nodes))) (sym h.sent) (All-nil (EnvBoots (HasBooted nodes)));
       };
+      resolved = λ number n e. let s = h.shards number n e in starts_resolved number s.0 s.1 n s.2;
     }
 
 -- a new disk has one record, of its first boot

@@ -24,4 +24,5 @@ mod StepRecords
 pub mod NodeRecords
 mod BootSteps
 pub mod Boots
+pub mod Above
 pub mod Joint

@@ -8,3 +8,4 @@ pub mod Joint
 pub mod Begins
 pub mod Recorded
 pub mod Boots
+pub mod Above

@@ -14,6 +14,7 @@ ghost use Rattle.world_laws.specs.Begins.{AllBegunOnce};
 ghost use Rattle.world_laws.specs.Recorded.{RecordsStand};
 ghost use Rattle.world_laws.specs.Tags.{AllPlansNamed};
 ghost use Rattle.world_laws.specs.Boots.{BootsStand};
+ghost use Rattle.world_laws.specs.Above.{ResolvedStand, AllGrow};
 
 /// A running shard's clock is at or below its last ceiling, behind each event.
 pub fn clocks_stay_below_their_ceilings()
@@ -59,6 +60,14 @@ pub fn what_is_told_is_recorded()
 /// records.
 pub fn boots_stay_behind()
     ensures { (old : Nodes) (ran : Ran) (new : Nodes) → Happens old ran new → ReadsStand old → BootsStand old → BootsStand new }
+{}
+
+/// What is resolved at a shard stays so, as far as it commits alone: at each event its records go on, and each commit and each
+/// prepared transaction among the new ones is above what was resolved there. That holds of a stopped shard that starts again
+/// with what it had in hand, too.
+pub fn what_is_resolved_stays_so()
+    ensures step { (old : Nodes) (ran : Ran) (new : Nodes) → Happens old ran new → ClocksStand old → ResolvedStand old → ResolvedStand new }
+    ensures grows { (old : Nodes) (ran : Ran) (new : Nodes) → Happens old ran new → ClocksStand old → ResolvedStand old → AllGrow old new }
 {}
 
 /// All of this stands behind each event, and so behind each run, where it stood before. It stands of nodes that have started
