@@ -1,5 +1,5 @@
 -- Records that hold a shard's state fit it.
-use Rattle.std.proofs.Common.{◌≡◌, ◌≤◌, ◌<ℤ◌, ◌&&◌, ◌||◌, ◌⊎◌, ℕ, ℤ, Bool, true, false, cond, not, List, [], ◌∷◌, find, filter, map, Option, Some, None, IsSomeAnd, is_none, option_map, unwrap_or, refl, ap, subst, ◌∙◌, sym, arith, int_lt, nat_lt, if◌then◌else◌}
+use Rattle.std.proofs.Common.{◌≡◌, ◌≤◌, ◌<ℤ◌, ◌&&◌, ◌||◌, ℕ, Bool, true, false, cond, not, List, [], ◌∷◌, find, map, Option, Some, None, IsSomeAnd, is_none, option_map, unwrap_or, refl, ap, subst, ◌∙◌, sym, arith, nat_lt, if◌then◌else◌}
 use Rattle.std.specs.List.{list_any, list_all, filter_map, cons_option}
 use Rattle.std.specs.Option.{is_some, option_or, option_and_then}
 use Rattle.txn_types.specs.Order.{same_tag, same_lsid}
@@ -15,14 +15,14 @@ use Rattle.txn_semantics.proofs.Places.{place_total, place_exact}
 use Rattle.coordinator.specs.declared.plan.Plan.{Plan}
 use Rattle.part_laws.specs.Seen.{wrote_at, left_by}
 use Rattle.part_laws.proofs.Looking.{eq_self}
-use Rattle.session_table.specs.Sessions.{Table, session_of, is_full, prepared_at}
+use Rattle.session_table.specs.Sessions.{session_of, prepared_at}
 use Rattle.session_table.specs.declared.session.Session.{Session}
 use Rattle.session_table.specs.declared.session.SessionState.TheVariants as state
 use Rattle.version_store.specs.declared.version.Pending.{Pending}
 use Rattle.version_store.specs.declared.version.Stamp.{Stamp}
 use Rattle.version_store.specs.declared.version.Stamp.TheVariants.{Unfinished, Prepared, At}
 use Rattle.version_store.specs.declared.version.Version.{Version}
-use Rattle.version_store.specs.Versions.{Versions, versions_of, finished, outlives, is_of, commit_of, writer_of, newest_of, first, content_of, against, other_writer_of, commit_above}
+use Rattle.version_store.specs.Versions.{versions_of, outlives, is_of, commit_of, newest_of, first, content_of, against, other_writer_of, commit_above}
 use Rattle.journal_rec.specs.Follows as journal
 use Rattle.journal_rec.specs.declared.record.Rec.{Rec}
 use Rattle.coordinator.specs.TwoPhase.{Coordinations, Coordinated}
@@ -30,11 +30,11 @@ use Rattle.participant.specs.declared.said.Open.{Open}
 use Rattle.participant.specs.Laws.{CanWrite, IsStanding}
 use Rattle.participant.specs.Part.{Part, session, open_of}
 use Rattle.participant.proofs.Moving.{one_session}
-use Rattle.participant.proofs.Statements.{has_live, live_keys}
-use Rattle.participant.proofs.Tags.{lsid_same, tag_self}
+use Rattle.participant.proofs.Statements.{has_live}
+use Rattle.participant.proofs.Tags.{lsid_same}
 use Rattle.part_laws.specs.Each.{Each}
 use Rattle.part_laws.specs.Chain.{own_at, IsCommitted}
-use Rattle.part_laws.proofs.Chains.{every, each_both, each_weaker, times_kept, none_found}
+use Rattle.part_laws.proofs.Chains.{every, each_weaker, times_kept, none_found}
 use Rattle.part_laws.proofs.Owners.{committed_none}
 use Rattle.shard_image.specs.Image.{Image, image_of, ledger_of, standing_by, number_of}
 use Rattle.shard_image.specs.Sound.{IsImage, HasIts, pending_of}
@@ -42,16 +42,15 @@ use Rattle.shard_image.proofs.Asked.{number_there, number_new, undisturbed_is, s
 use Rattle.shard_image.proofs.Decisions.{image_counted}
 use Rattle.shard_image.proofs.Lookups.{free_is}
 use Rattle.shard_core.specs.State.{ShardState}
-use Rattle.shard_core.specs.Durable.{plans_of, HasSession}
+use Rattle.shard_core.specs.Durable.{plans_of}
 use Rattle.shard_core.specs.Laws.{Fits}
 use Rattle.durable_laws.specs.Backed.{is_recorded, IsBacked}
 use Rattle.durable_laws.specs.Fitting.{AreOrdered}
-use Rattle.durable_laws.proofs.Whole.{AreNewestFirst, newest_commit, HasStamp, PendingHas, IsWhole}
+use Rattle.durable_laws.proofs.Whole.{AreNewestFirst, newest_commit, HasStamp, PendingHas}
 use Rattle.durable_laws.proofs.Holding.{Backs}
 use Rattle.durable_laws.proofs.Places.{lasting, lasting_rest, behind_fall, fall_committed}
 use Rattle.durable_laws.proofs.Lasting.{versions_finished}
 use Rattle.durable_laws.proofs.Ends.{none_pending, recorded_below, has_some}
-use Rattle.durable_laws.proofs.Parting.{written_at}
 use Rattle.durable_laws.proofs.Backing.{to_backs}
 
 decided_row : Tag × (Plan × Option Decision) → Tag × Option Decision

@@ -19,3 +19,4 @@ pub mod Stepping
 pub mod Beginning
 pub mod Nodes
 pub mod Fitting
+pub mod Following

@@ -59,9 +59,6 @@ commits_prepared : (tag : Tag) (at : ℕ) (V : List Version) → newest_commit (
 commits_prepared tag at V =
     ap (λ o. unwrap_or o 0) (times_mapped (restamped tag (Prepared tag at)) (λ v. commit_of v.stamp) (λ v. commit_of v.stamp) V (every (λ (v : Version). commit_of (restamped tag (Prepared tag at) v).stamp ≡ commit_of v.stamp) (λ v. commit_case tag at v (is_of tag v) refl) V))
 
-or_true : (a b : Bool) → (a ≡ true → b ≡ true) → a ≡ true → b ≡ true
-or_true a b f h = f h
-
 any_more : (tag : Tag) (pending : List Pending) (x : Pending) → list_any (λ (q : Pending). same_tag q.tag tag) pending ≡ true → list_any (λ (q : Pending). same_tag q.tag tag) (pending ++ x ∷ []) ≡ true
 any_more tag [] x h = cc
 any_more tag (y ∷ pending) x h = more_case (same_tag y.tag tag) h (any_more tag pending x)

@@ -306,9 +306,6 @@ module _ (i : Image) (p : Part) (last wall : ℕ) (m : Statement) (whole : IsWho
 -- The rules, from the first.
 
 module _ (i : Image) (p : Part) (last wall : ℕ) (m : Statement) (whole : IsWhole p last) (holds : HoldsPart i p) (once : elsewhere p m.lsid m.tag ≡ false) (reads : m.read_at ≤ last) where
-  LeftTurn : Turn → Type 0
-  LeftTurn t = Left i t.1 last None
-
   same : Left i p last None
   same = same_left i p last whole holds
 

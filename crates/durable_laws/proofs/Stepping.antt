@@ -94,7 +94,7 @@ met_backed i s e b = met_case i s (reached s e) e.time (read_at_of e.msg) (nat_l
 abbrev pub BacksStep : Image → CoreStep → Type 0
 BacksStep i o = Backs (behind (raised_image i o.ceiling) o.rec) o.core × IfSome o.rec IsWritten
 
-entered_backed : (i : Image) (s : ShardState) (e : NodeEvent) → Backs i s → Backs i (entered s e)
+pub entered_backed : (i : Image) (s : ShardState) (e : NodeEvent) → Backs i s → Backs i (entered s e)
 entered_backed i s e b =
     let w : ShardState = walled s e.wall in
     let bw : Backs i w = record { whole = b.whole; holds = b.holds; ceiling = b.ceiling; rises = b.rises; plans = b.plans } in

@@ -1,5 +1,5 @@
-//! A law is the contract of a function with an empty body.
-ghost use Rattle.std.specs.Prelude.{◌≡◌, ◌++◌, ℕ, List, [], Some, None};
+//! Laws of a shard's step, its records and its node: a law is the contract of a function with an empty body.
+ghost use Rattle.std.specs.Prelude.{◌≡◌, ◌<◌, ◌^◌, ◌++◌, ℕ, List, [], Some, None};
 ghost use Rattle.txn_types.specs.declared.event.NodeAnswer.{NodeAnswer};
 ghost use Rattle.txn_types.specs.declared.event.NodeEvent.{NodeEvent};
 ghost use Rattle.journal_rec.specs.Follows as journal;
@@ -8,9 +8,11 @@ ghost use Rattle.shard_image.specs.Sound.{AreWritten};
 ghost use Rattle.shard_core.specs.State.{ShardState};
 ghost use Rattle.shard_core.specs.Core.{Room, core_step};
 ghost use Rattle.shard_core.specs.NodeStep.{NodeState, appends_of, joined, Failed, ShardTakes, started};
-ghost use Rattle.shard_core.specs.Laws.{Fits};
+ghost use Rattle.shard_core.specs.Laws.{IsClock, HasTimes, NamesTimes, Fits};
 ghost use Rattle.durable_laws.specs.Fitting.{AreOrdered};
 ghost use Rattle.durable_laws.specs.Backed.{IsShard, IsBacked, kept_state, lost_state, IsFoundAgain, IsDurableNode, IsLeft, left_state};
+
+use shard_core::laws::a_record_can_follow;
 
 /// A shard's part stays of one piece behind each step, whatever the event names: statement, commit, preparation, decision,
 /// abort, recovery, expiry, or want of memory that is told.
@@ -34,8 +36,8 @@ pub fn a_failed_append_is_durable()
 {}
 
 /// A start finds the shard again: from records that hold a state it leaves what outlives a stop of that state, with the
-/// next boot and the clock at the last ceiling. Whatever records it takes, its own hold its state, and its part is
-/// whole. It takes an empty journal.
+/// next boot and the clock at the last ceiling. Whatever records it takes, its own hold its state, which is of one piece.
+/// It takes an empty journal.
 pub fn a_start_is_durable()
     ensures found { (shard : ℕ) (recs : List Rec) (faults : ℕ) (n : NodeState) (s : ShardState) → IsBacked recs s → started shard recs faults ≡ Some n → IsFoundAgain s n.core }
     ensures backed { (shard : ℕ) (recs : List Rec) (faults : ℕ) (n : NodeState) → AreWritten recs → started shard recs faults ≡ Some n → IsBacked n.records n.core }
@@ -59,3 +61,12 @@ pub fn a_node_is_durable()
 pub fn records_fit_their_shard()
     ensures { (recs : List Rec) (s : ShardState) → IsBacked recs s → AreOrdered recs s → Fits (journal.ledger_of recs) s }
 {}
+
+/// What a step appends can follow the records that hold the shard's state, where its clock is at or below the ceiling and
+/// a message that is delivered names no time above that of its envelope.
+pub fn a_step_is_followed()
+    ensures { (room : Room) (s : ShardState) (e : NodeEvent) (recs : List Rec) → IsBacked recs s → AreOrdered recs s → IsClock s.clock → s.wall < 2 ^ 32 → e.wall < 2 ^ 32
+        → HasTimes e.what → NamesTimes e.what → journal.first_refused (recs ++ joined (appends_of (core_step room s e))) ≡ None }
+{
+    a_record_can_follow()
+}

@@ -24,6 +24,9 @@ use Rattle.world_laws.specs.Tags.{BeginsNamed, PlansNamed}
 use Rattle.world_laws.specs.Joint.{Stands, NoName, DiskStands, DisksStand}
 use Rattle.world_laws.proofs.NodeRecords.{records_kept, starts_recorded}
 use Rattle.world_laws.specs.Recorded.{RestsOn, NodeRecorded}
+use Rattle.world_laws.specs.Boots.{EnvBoots, NodeTold, BootStands, HasBooted}
+use Rattle.world_laws.proofs.Boots.{boots_step, starts_boots, router_fresh_boots}
+use Rattle.world_laws.proofs.Above.{resolved_step, starts_resolved}
 use Rattle.world_laws.proofs.Once.{once_step, tags_all, once_fresh, tags_fresh}
 use Rattle.world_laws.proofs.Clocks.{clocks_step, starts_clock, started_is, ceiling_on}
 use Rattle.world_laws.proofs.ReadTimes.{reads_step, starts_reads}
@@ -42,6 +45,8 @@ stands_step old ran new h s =
       begun = once_step old ran new h s.plans s.tags s.begun;
       tags = tags_all old ran new h s.plans s.begun s.tags;
       recorded = records_kept old ran new h asks s.reads reads s.recorded;
+      boots = boots_step old ran new h s.reads s.boots;
+      resolved = resolved_step old ran new h s.clocks s.resolved;
     }
 
 pub stands_run : (old : Nodes) (run : List Ran) (trace : List Nodes) (new : Nodes) → IsTrace old run trace new → Stands old → Stands new
@@ -74,12 +79,13 @@ begins_more P (rec.CoordDecision tag d) h = tt
 begins_more P (rec.CoordEnd tag) h = tt
 begins_more P (rec.Floor floor) h = tt
 
-starts_all : (P : Named → Type 0) (nodes : Nodes) (number : ℕ) (recs : List Rec) (faults : ℕ) (n : NodeState) → started number recs faults ≡ Some n → slice_get nodes.shards number ≡ Some n → DiskStands nodes n.records → ClockStands n × NodeReads number n × PlansNamed P n × NodeRecorded nodes n
+starts_all : (P : Named → Type 0) (nodes : Nodes) (number : ℕ) (recs : List Rec) (faults : ℕ) (n : NodeState) → started number recs faults ≡ Some n → slice_get nodes.shards number ≡ Some n → DiskStands nodes n.records → ClockStands n × NodeReads number n × PlansNamed P n × NodeRecorded nodes n × (BootStands n × NodeTold (HasBooted nodes) n)
 starts_all P nodes number recs faults n is there d = (
   starts_clock number recs faults n is d.ceiling,
   (starts_reads number recs faults n is (front_of (RecBehind (last_ceiling recs)) number recs faults n is (subst (λ (k : ℕ). All (RecBehind k) n.records) (same_ceiling number recs faults n is) d.times))).0,
   starts_named P number recs faults n is (All-weaker (BeginsNamed NoName) (BeginsNamed P) (begins_more P) recs (front_of (BeginsNamed NoName) number recs faults n is d.begins)),
   starts_recorded nodes number recs faults n there is (front_of (RestsOn (HasCommit nodes)) number recs faults n is d.rests),
+  starts_boots nodes number recs faults n is (front_of (BeginsNamed NoName) number recs faults n is d.begins),
 )
 
 router_fresh : (chunks : Map) (nodes : Nodes) → IsFresh chunks nodes → (number : ℕ) (r : RouterState) → slice_get nodes.routers number ≡ Some r → RouterAsks r
@@ -103,6 +109,12 @@ stands_fresh chunks nodes h d =
         shards = λ number n e. (at number n e).3;
         sent = subst (All (λ (e : Envelope). IsRecorded nodes e.msg)) (sym h.sent) (All-nil (λ (e : Envelope). IsRecorded nodes e.msg));
       };
+      boots = record {
+        shards = λ number n e. (at number n e).4;
+        routers = router_fresh_boots chunks nodes h;
+        sent = subst (All (EnvBoots (HasBooted nodes))) (sym h.sent) (All-nil (EnvBoots (HasBooted nodes)));
+      };
+      resolved = λ number n e. let s = h.shards number n e in starts_resolved number s.0 s.1 n s.2;
     }
 
 -- a new disk has one record, of its first boot

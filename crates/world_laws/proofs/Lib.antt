@@ -13,6 +13,7 @@ mod StepTimes
 pub mod ReadTimes
 mod Asking
 mod RouterSteps
+mod Booting
 mod Deeds
 mod Going
 mod Beginning
@@ -21,4 +22,7 @@ mod PartRecords
 mod RuledRecords
 mod StepRecords
 pub mod NodeRecords
+mod BootSteps
+pub mod Boots
+pub mod Above
 pub mod Joint

@@ -69,7 +69,7 @@ found Q tag (entry ∷ coords) h c e =
 
 -- votes and acknowledgements
 
-vote_plan : (shard : ℕ) (vote : Result ℕ Cause) (c : Coordinated) → (behind_vote shard vote c).plan ≡ c.plan
+pub vote_plan : (shard : ℕ) (vote : Result ℕ Cause) (c : Coordinated) → (behind_vote shard vote c).plan ≡ c.plan
 vote_plan shard (Ok at) c = refl
 vote_plan shard (Err why) c = refl
 

@@ -1,5 +1,6 @@
 -- What holds of a cluster in each state that it comes to, as far as it is shown: of clocks, of the times that shards answer and
--- record, of what routers send, of what shards coordinate, of what tags stand for, and of the records of what is told as committed. Each event keeps it as a whole.
+-- record, of what routers send, of what shards coordinate, of what tags stand for, of the records of what is told as committed, of
+-- boots, and of what is resolved. Each event keeps it as a whole.
 use Rattle.std.specs.Prelude.{◌<◌, ◌^◌, List, All}
 use Rattle.journal_rec.specs.declared.record.Rec.{Rec}
 use Rattle.cluster_core.specs.Naming.{Named}
@@ -12,6 +13,8 @@ use Rattle.world_laws.specs.Asking.{AllRoutersAsk}
 use Rattle.world_laws.specs.Tags.{BeginsNamed, AllPlansNamed}
 use Rattle.world_laws.specs.Begins.{AllBegunOnce}
 use Rattle.world_laws.specs.Recorded.{RestsOn, RecordsStand}
+use Rattle.world_laws.specs.Boots.{BootsStand}
+use Rattle.world_laws.specs.Above.{ResolvedStand}
 
 pub record Stands (nodes : Nodes) : Type 0 where
   pub clocks : ClocksStand nodes
@@ -21,6 +24,8 @@ pub record Stands (nodes : Nodes) : Type 0 where
   pub begun : AllBegunOnce nodes
   pub tags : TagsBegunOnce nodes
   pub recorded : RecordsStand nodes
+  pub boots : BootsStand nodes
+  pub resolved : ResolvedStand nodes
 
 -- What may be on the disks that a cluster starts from: the last ceiling is a time, no record has one above it, no commit of
 -- several shards was begun, and what was decided as committed has the record of its commit.

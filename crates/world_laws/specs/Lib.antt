@@ -7,3 +7,5 @@ pub mod Asking
 pub mod Joint
 pub mod Begins
 pub mod Recorded
+pub mod Boots
+pub mod Above

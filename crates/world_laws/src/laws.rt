@@ -13,6 +13,8 @@ ghost use Rattle.world_laws.specs.ReadTimes.{ReadsStand, RoutersAsk};
 ghost use Rattle.world_laws.specs.Begins.{AllBegunOnce};
 ghost use Rattle.world_laws.specs.Recorded.{RecordsStand};
 ghost use Rattle.world_laws.specs.Tags.{AllPlansNamed};
+ghost use Rattle.world_laws.specs.Boots.{BootsStand};
+ghost use Rattle.world_laws.specs.Above.{ResolvedStand, AllGrow};
 
 /// A running shard's clock is at or below its last ceiling, behind each event.
 pub fn clocks_stay_below_their_ceilings()
@@ -51,6 +53,21 @@ pub fn tags_are_begun_once()
 pub fn what_is_told_is_recorded()
     ensures step { (old : Nodes) (ran : Ran) (new : Nodes) → Happens old ran new → RoutersAsk ran → ReadsStand old → ReadsStand new → RecordsStand old → RecordsStand new }
     ensures part { (nodes : Nodes) → RecordsStand nodes → CommitsRecorded nodes }
+{}
+
+/// No message has a boot above that of the shard that it is of, but for a token's, behind each event. What routers have of the
+/// shards that take part, and what shards coordinate and record, stands beside it, with each shard's boot, which is that of its
+/// records.
+pub fn boots_stay_behind()
+    ensures { (old : Nodes) (ran : Ran) (new : Nodes) → Happens old ran new → ReadsStand old → BootsStand old → BootsStand new }
+{}
+
+/// What is resolved at a shard stays so, as far as it commits alone: at each event its records go on, and each commit and each
+/// prepared transaction among the new ones is above what was resolved there. That holds of a stopped shard that starts again
+/// with what it had in hand, too.
+pub fn what_is_resolved_stays_so()
+    ensures step { (old : Nodes) (ran : Ran) (new : Nodes) → Happens old ran new → ClocksStand old → ResolvedStand old → ResolvedStand new }
+    ensures grows { (old : Nodes) (ran : Ran) (new : Nodes) → Happens old ran new → ClocksStand old → ResolvedStand old → AllGrow old new }
 {}
 
 /// All of this stands behind each event, and so behind each run, where it stood before. It stands of nodes that have started

@@ -1,0 +1,9 @@
+mod Lists
+mod Answered
+mod Fits
+mod Deeds
+mod Going
+mod Beginning
+mod Shards
+mod Sending
+mod Running
