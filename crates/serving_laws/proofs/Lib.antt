@@ -4,3 +4,4 @@ pub mod Turning
 pub mod Ruling
 pub mod Stepping
 pub mod Starting
+pub mod Crashing

@@ -1,3 +1,4 @@
 pub mod Coming
 pub mod Telling
 pub mod Left
+pub mod Crash
