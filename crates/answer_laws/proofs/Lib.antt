@@ -7,3 +7,4 @@ mod Beginning
 mod Shards
 mod Sending
 mod Running
+mod One

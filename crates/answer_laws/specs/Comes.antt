@@ -1,10 +1,12 @@
 -- Where an answered statement comes from: a statement that a router opened, and an Answer of each shard that it was sent to.
-use Rattle.std.specs.Prelude.{◌≡◌, ℕ, List, [], All, Contains, is_some, length, true}
+use Rattle.std.specs.Prelude.{◌≡◌, ℕ, List, [], ◌∷◌, Some, All, Contains, is_some, length, true}
 use Rattle.txn_types.specs.declared.message.Answer.{Answer}
 use Rattle.txn_types.specs.declared.message.Envelope.{Envelope}
 use Rattle.txn_types.specs.declared.message.Msg.TheVariants as msg
 use Rattle.txn_types.specs.declared.node.NodeId.TheVariants.{Router}
 use Rattle.txn_semantics.specs.declared.commits.Answered.{Answered}
+use Rattle.txn_semantics.specs.Meaning.{Meaning, words}
+use Rattle.txn_semantics.specs.Splits.{outcome}
 use Rattle.cluster_core.specs.Answering.{Unanswered, answered_of, meaning_in}
 
 -- the Answer of a shard, as it was sent to the router that asked
@@ -35,3 +37,16 @@ pub record IsAnswered (sent : List Envelope) (begun : List Unanswered) (a : Answ
   pub comes : Comes sent begun statement
   pub complete : length statement.answers ≡ length statement.shards
   pub says : All (λ answer. is_some (meaning_in answer) ≡ true) statement.answers
+
+-- A statement that was sent to one shard is what that shard's Answer says.
+pub record IsOfOne (sent : List Envelope) (a : Answered) : Type 0 where
+  pub envelope : Envelope
+  pub answer : Answer
+  pub meaning : Meaning
+  pub was_sent : Contains sent envelope
+  pub msg : envelope.msg ≡ msg.Answer answer
+  pub tag : answer.tag ≡ a.tag
+  pub k : answer.k ≡ a.k
+  pub read_at : answer.read_at ≡ a.read_at
+  pub says : meaning_in (answer.shard, answer) ≡ Some meaning
+  pub outcome : a.outcome ≡ outcome words a.op (meaning ∷ [])
