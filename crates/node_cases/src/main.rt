@@ -14,6 +14,7 @@ mod told;
 mod words;
 
 use cases::Cases;
+use std::alloc::{AllocError, Global};
 use std::{env, fs, io};
 
 /// The files of cases.
@@ -26,6 +27,25 @@ const FILES: [&str; 6] = [
     "drawn.cases",
 ];
 
+/// What is to be said of a file, and how many cases it has.
+#[derive(Drop)]
+struct Report {
+    text: String,
+    count: u64,
+}
+
+/// Runs a file of this text.
+fn report(alloc: Global, text: &str) -> Result<Report, AllocError> {
+    let mut cases = Cases::new(alloc);
+    match cases.run(alloc, text) {
+        Ok(text) => Ok(Report {
+            text,
+            count: cases.count,
+        }),
+        Err(AllocError) => Err(AllocError),
+    }
+}
+
 fn main(rt: HostRuntime) -> io::Result<()> {
     let alloc = rt.alloc();
     let mut words = env::args(&rt)?.skip(1);
@@ -36,10 +56,9 @@ fn main(rt: HostRuntime) -> io::Result<()> {
     for name in FILES {
         let path = format!(in alloc; "{folder}/{name}")?;
         let text = fs::read_to_string(&rt, path.as_str())?;
-        let mut cases = Cases::new(alloc);
-        let report = cases.run(alloc, text.as_str())?;
-        print!(rt; "{report}")?;
-        println!(rt; "{name}: {} cases", cases.count)?;
+        let Report { text, count } = report(alloc, text.as_str())?;
+        print!(rt; "{text}")?;
+        println!(rt; "{name}: {count} cases")?;
     }
     Ok(())
 }
