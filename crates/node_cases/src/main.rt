@@ -35,7 +35,7 @@ struct Report {
 }
 
 /// Runs a file of this text.
-fn report(alloc: Global, text: &str) -> Result<Report, AllocError> {
+fn run_file(alloc: Global, text: &str) -> Result<Report, AllocError> {
     let mut cases = Cases::new(alloc);
     match cases.run(alloc, text) {
         Ok(text) => Ok(Report {
@@ -56,7 +56,7 @@ fn main(rt: HostRuntime) -> io::Result<()> {
     for name in FILES {
         let path = format!(in alloc; "{folder}/{name}")?;
         let text = fs::read_to_string(&rt, path.as_str())?;
-        let Report { text, count } = report(alloc, text.as_str())?;
+        let Report { text, count } = run_file(alloc, text.as_str())?;
         print!(rt; "{text}")?;
         println!(rt; "{name}: {count} cases")?;
     }
