@@ -30,7 +30,7 @@ const FILES: [&str; 6] = [
 /// What is to be said of a file, and how many cases it has.
 #[derive(Drop)]
 struct Report {
-    text: String,
+    said: String,
     count: u64,
 }
 
@@ -38,8 +38,8 @@ struct Report {
 fn run_file(alloc: Global, text: &str) -> Result<Report, AllocError> {
     let mut cases = Cases::new(alloc);
     match cases.run(alloc, text) {
-        Ok(text) => Ok(Report {
-            text,
+        Ok(said) => Ok(Report {
+            said,
             count: cases.count,
         }),
         Err(AllocError) => Err(AllocError),
@@ -56,8 +56,8 @@ fn main(rt: HostRuntime) -> io::Result<()> {
     for name in FILES {
         let path = format!(in alloc; "{folder}/{name}")?;
         let text = fs::read_to_string(&rt, path.as_str())?;
-        let Report { text, count } = run_file(alloc, text.as_str())?;
-        print!(rt; "{text}")?;
+        let Report { said, count } = run_file(alloc, text.as_str())?;
+        print!(rt; "{said}")?;
         println!(rt; "{name}: {count} cases")?;
     }
     Ok(())
