@@ -98,7 +98,8 @@ KnowsTold nodes other = Unit {0}
 abbrev pub KnowsBoots : Nodes → Envelope → Type 0
 KnowsBoots nodes e = elim (e.to) [ Shard shard ↦ KnowsAsked nodes shard e.msg | Router router ↦ KnowsTold nodes e.msg ]
 
--- what a live transaction has is what its newest statement there was answered in this boot
+-- what a live transaction of a running shard has is what its newest statement there was answered in this boot (a shard
+-- whose append of a ceiling failed at a statement has begun to serve it, and is stopped)
 abbrev pub IsAnswer : NodeState → Open → Answer → Type 0
 IsAnswer n o a = (a.tag ≡ o.tag) × (a.k ≡ o.k) × (a.shard ≡ n.core.part.shard) × (a.boot ≡ n.core.part.boot) × (a.read_at ≡ o.read_at) × (a.outcome ≡ Ok (o.reply, o.wrote))
 
@@ -106,7 +107,7 @@ abbrev pub WasAnswered : Nodes → NodeState → Open → Type 0
 WasAnswered nodes n o = (e : Envelope) × (a : Answer) × Contains nodes.sent e × (e.msg ≡ msg.Answer a) × IsAnswer n o a
 
 abbrev pub LiveAsAnswered : Nodes → NodeState → Type 0
-LiveAsAnswered nodes n = All (λ entry. WasAnswered nodes n entry.1) n.core.part.live
+LiveAsAnswered nodes n = IsRunning n → All (λ entry. WasAnswered nodes n entry.1) n.core.part.live
 
 pub record BootsKnown (nodes : Nodes) : Type 0 where
   pub messages : All (KnowsBoots nodes) nodes.sent
