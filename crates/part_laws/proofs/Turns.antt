@@ -342,6 +342,16 @@ module _ (p : Part) (opens : Opens) (last : ℕ) (entries : List Entry) (served 
           done = λ reply writes told more kept sound. done_new (rules.read_time last m) reply writes told more kept sound (open_of p m.lsid) refl;
         }
 
+  -- The boot stays.
+
+  closed_boot : (found : Option Open) → p.boot ≡ (closed p m.lsid found).boot
+  closed_boot None = refl
+  closed_boot (Some o) = refl
+
+  room_boot : (mine : Option Open) → p.boot ≡ (rules.made_room p m mine).boot
+  room_boot None = closed_boot (open_of p m.lsid)
+  room_boot (Some o) = refl
+
   -- The rules 6 to 10.
 
   more_one : (s : Served) (x : Served) → Among x served → Among x (s ∷ served)
@@ -371,7 +381,7 @@ module _ (p : Part) (opens : Opens) (last : ℕ) (entries : List Entry) (served 
           told = s ∷ served;
           holds = ready.done reply writes (s ∷ served) (more_one s) (s, inl refl, refl, refl, refl, refl)
               (does p.store opens last entries served part.sound m.tag p.boot m.k at m.op ready.runs comes.fresh ready.behind rows reply writes is means clear);
-          grows = inr (s, refl, (refl, refl, refl), (refl, refl));
+          grows = inr (s, refl, (refl, refl, refl), room_boot mine, (refl, refl));
           answered = (s, inl refl, refl, refl, refl, refl);
         }
 
@@ -389,7 +399,7 @@ module _ (p : Part) (opens : Opens) (last : ℕ) (entries : List Entry) (served 
           told = s ∷ served;
           holds = refuse_case (state.Aborted (cause.Statement err) at) refl (λ boot os tag. refl) ready.free (s ∷ served) (more_one s) (λ e n h. same_refusal err e at n s refl (refl, refl) h)
               (refuses p.store opens last entries served part.sound m.tag p.boot m.k at m.op ready.runs comes.fresh ready.behind rows (Err err) is means refl) (open_of p m.lsid) refl;
-          grows = inr (s, refl, (refl, refl, refl), (refl, refl));
+          grows = inr (s, refl, (refl, refl, refl), closed_boot (open_of p m.lsid), (refl, refl));
           answered = (s, inl refl, refl, refl, refl);
         }
     meant_turn rows (Ok done) is means = clear_turn rows done.0 done.1 (conflict p.store at m.tag done.1) is means refl

@@ -57,14 +57,14 @@ abbrev pub InTold : List Served → Letter → Type 0
 InTold told l = IsToldBy told l.1
 
 -- at most one statement is served, and its Answer is all that is sent
-abbrev pub GrowsAs : Msg → List Served → List Served → List Letter → Option Held → Type 0
-GrowsAs (msg.Statement m) served told out held = (told ≡ served) ⊎ ((x : Served) × (told ≡ x ∷ served) × IsOf m x × (held ≡ None) × ((l : Letter) × (out ≡ l ∷ []) × AnswersTo x l.1))
-GrowsAs other served told out held = told ≡ served
+abbrev pub GrowsAs : ℕ → Msg → List Served → List Served → List Letter → Option Held → Type 0
+GrowsAs boot (msg.Statement m) served told out held = (told ≡ served) ⊎ ((x : Served) × (told ≡ x ∷ served) × IsOf m x × (x.life ≡ boot) × (held ≡ None) × ((l : Letter) × (out ≡ l ∷ []) × AnswersTo x l.1))
+GrowsAs boot other served told out held = told ≡ served
 
 pub record RuleServes (old : Opens) (last : ℕ) (entries : List Entry) (served : List Served) (m : Msg) (r : Ruled) : Type 0 where
   pub told : List Served
   pub left : LeftBy old r.core.part last r.core.clock.last entries told m r.rec
-  pub grows : GrowsAs m served told r.out r.held
+  pub grows : GrowsAs r.core.part.boot m served told r.out r.held
   pub out : All (InTold told) r.out
 
 -- what tells nothing of a statement
@@ -127,16 +127,16 @@ refused_there s to m told (cause.Statement err) at h = h
 refused_there s to m told other at h = tt
 
 module _ (s : ShardState) (to : NodeId) (m : Statement) (opens : Opens) (entries : List Entry) (served : List Served) where
-  grown : (told : List Served) (said : Said) → ((told ≡ served) ⊎ ((x : Served) × (told ≡ x ∷ served) × IsOf m x × IsTold said x)) → GrowsAs (msg.Statement m) served told (answers s to m said).out (answers s to m said).held
+  grown : (told : List Served) (said : Said) → ((told ≡ served) ⊎ ((x : Served) × (told ≡ x ∷ served) × IsOf m x × (x.life ≡ s.part.boot) × IsTold said x)) → GrowsAs s.part.boot (msg.Statement m) served told (answers s to m said).out (answers s to m said).held
   grown told said (inl h) = inl h
   grown told (Did at reply wrote) (inr h) =
       let is : participating.answer s to m at (Ok (reply, wrote)) ∷ [] ≡ participating.answer s to m at (Ok (reply, wrote)) ∷ [] = refl in
-      inr (h.0, h.1, h.2, refl, (participating.answer s to m at (Ok (reply, wrote)), is, record { tag = sym h.2.0; k = sym h.2.1; read_at = sym h.3.0; outcome = h.3.1 }))
-  grown told (Blocked held) (inr h) = absurd h.3
+      inr (h.0, h.1, h.2, h.3, refl, (participating.answer s to m at (Ok (reply, wrote)), is, record { tag = sym h.2.0; k = sym h.2.1; read_at = sym h.4.0; outcome = h.4.1 }))
+  grown told (Blocked held) (inr h) = absurd h.4
   grown told (Refused why at) (inr h) =
-      let r = answers_refusal m h.0 why at h.3 in
-      inr (h.0, h.1, h.2, refl, (participating.answer s to m at (Err why), refl, record { tag = sym h.2.0; k = sym h.2.1; read_at = r.0; outcome = r.1 }))
-  grown told Late (inr h) = absurd h.3
+      let r = answers_refusal m h.0 why at h.4 in
+      inr (h.0, h.1, h.2, h.3, refl, (participating.answer s to m at (Err why), refl, record { tag = sym h.2.0; k = sym h.2.1; read_at = r.0; outcome = r.1 }))
+  grown told Late (inr h) = absurd h.4
 
   told_out : (told : List Served) (said : Said) → IsAnswered told m said → All (InTold told) (answers s to m said).out
   told_out told (Did at reply wrote) h = one (InTold told) _ h
@@ -234,7 +234,7 @@ module _ (s : ShardState) (opens : Opens) (entries : List Entry) (served : List 
   router_rests rule None h = quiet_rests
   router_rests rule (Some n) h = h n
 
-  rests : (m : Msg) (r : Ruled) → ((told : List Served) (out : List Letter) (held : Option Held) → told ≡ served → GrowsAs m served told out held)
+  rests : (m : Msg) (r : Ruled) → ((told : List Served) (out : List Letter) (held : Option Held) → told ≡ served → GrowsAs r.core.part.boot m served told out held)
       → ((q : Part) (later : ℕ) (recorded : Option Rec) → Holds opens q later entries served → NoneButCoord recorded → LeftBy opens q s.clock.last later entries served m recorded) → Rests r → RuleServes opens s.clock.last entries served m r
   rests m r grows left h = record { told = served; left = left r.core.part r.core.clock.last r.rec h.holds h.recorded; grows = grows served r.out r.held refl; out = silent_out served r.out h.out }
 

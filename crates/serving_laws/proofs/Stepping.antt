@@ -151,40 +151,40 @@ left_none old q last entries served (what.Gone conn) h = (h, tt)
 left_none old q last entries served what.Resend h = (h, tt)
 left_none old q last entries served what.Moment h = (h, tt)
 
-grows_same : (m : Msg) (served : List Served) (out : List Letter) (held : Option Held) → GrowsAs m served served out held
-grows_same (msg.Statement m) served out held = inl refl
-grows_same (msg.Answer m) served out held = refl
-grows_same (msg.Commit m) served out held = refl
-grows_same (msg.Outcome m) served out held = refl
-grows_same (msg.Abort m) served out held = refl
-grows_same (msg.CommitTwo m) served out held = refl
-grows_same (msg.Prepare m) served out held = refl
-grows_same (msg.Vote m) served out held = refl
-grows_same (msg.Decide m) served out held = refl
-grows_same (msg.Acked m) served out held = refl
-grows_same (msg.Recover m) served out held = refl
-grows_same msg.Nudge served out held = refl
+grows_same : (boot : ℕ) (m : Msg) (served : List Served) (out : List Letter) (held : Option Held) → GrowsAs boot m served served out held
+grows_same boot (msg.Statement m) served out held = inl refl
+grows_same boot (msg.Answer m) served out held = refl
+grows_same boot (msg.Commit m) served out held = refl
+grows_same boot (msg.Outcome m) served out held = refl
+grows_same boot (msg.Abort m) served out held = refl
+grows_same boot (msg.CommitTwo m) served out held = refl
+grows_same boot (msg.Prepare m) served out held = refl
+grows_same boot (msg.Vote m) served out held = refl
+grows_same boot (msg.Decide m) served out held = refl
+grows_same boot (msg.Acked m) served out held = refl
+grows_same boot (msg.Recover m) served out held = refl
+grows_same boot msg.Nudge served out held = refl
 
-stays_by : (m : Msg) (served : List Served) (out : List Envelope) → GrowsBy m served served out
-stays_by (msg.Statement m) served out = inl refl
-stays_by (msg.Answer m) served out = refl
-stays_by (msg.Commit m) served out = refl
-stays_by (msg.Outcome m) served out = refl
-stays_by (msg.Abort m) served out = refl
-stays_by (msg.CommitTwo m) served out = refl
-stays_by (msg.Prepare m) served out = refl
-stays_by (msg.Vote m) served out = refl
-stays_by (msg.Decide m) served out = refl
-stays_by (msg.Acked m) served out = refl
-stays_by (msg.Recover m) served out = refl
-stays_by msg.Nudge served out = refl
+stays_by : (boot : ℕ) (m : Msg) (served : List Served) (out : List Envelope) → GrowsBy boot m served served out
+stays_by boot (msg.Statement m) served out = inl refl
+stays_by boot (msg.Answer m) served out = refl
+stays_by boot (msg.Commit m) served out = refl
+stays_by boot (msg.Outcome m) served out = refl
+stays_by boot (msg.Abort m) served out = refl
+stays_by boot (msg.CommitTwo m) served out = refl
+stays_by boot (msg.Prepare m) served out = refl
+stays_by boot (msg.Vote m) served out = refl
+stays_by boot (msg.Decide m) served out = refl
+stays_by boot (msg.Acked m) served out = refl
+stays_by boot (msg.Recover m) served out = refl
+stays_by boot msg.Nudge served out = refl
 
-pub grows_none : (w : Happening) (served : List Served) (out : List Envelope) → Grows w served served out
-grows_none (what.Deliver e) served out = stays_by e.msg served out
-grows_none (what.Client conn frame) served out = refl
-grows_none (what.Gone conn) served out = refl
-grows_none what.Resend served out = refl
-grows_none what.Moment served out = refl
+pub grows_none : (boot : ℕ) (w : Happening) (served : List Served) (out : List Envelope) → Grows boot w served served out
+grows_none boot (what.Deliver e) served out = stays_by boot e.msg served out
+grows_none boot (what.Client conn frame) served out = refl
+grows_none boot (what.Gone conn) served out = refl
+grows_none boot what.Resend served out = refl
+grows_none boot what.Moment served out = refl
 
 -- What is given out.
 
@@ -195,13 +195,13 @@ out_told : (s : ShardState) (told : List Served) (out : List Letter) (held : Opt
 out_told s told out None h = All-map (OutTold told) (sent_by (Shard s.part.shard) s.clock.last) out (All-weaker (InTold told) (λ (l : Letter). OutTold told (sent_by (Shard s.part.shard) s.clock.last l)) (λ l k. k) out h)
 out_told s told out (Some held) h = nothing (OutTold told)
 
-grows_out : (s : ShardState) (m : Msg) (served told : List Served) (out : List Letter) (held : Option Held) → GrowsAs m served told out held → GrowsBy m served told (given_out (answer_of s out held))
+grows_out : (s : ShardState) (m : Msg) (served told : List Served) (out : List Letter) (held : Option Held) → GrowsAs s.part.boot m served told out held → GrowsBy s.part.boot m served told (given_out (answer_of s out held))
 grows_out s (msg.Statement m) served told out held (inl h) = inl h
 grows_out s (msg.Statement m) served told out held (inr h) =
-    let letter : Letter = h.4.0 in
+    let letter : Letter = h.5.0 in
     let e : Envelope = sent_by (Shard s.part.shard) s.clock.last letter in
-    let is : given_out (answer_of s out held) ≡ e ∷ [] = ap (λ x. given_out (answer_of s out x)) h.3 ∙ ap (all_sent_by (Shard s.part.shard) s.clock.last) h.4.1 in
-    inr (h.0, h.1, h.2, (e, is, h.4.2))
+    let is : given_out (answer_of s out held) ≡ e ∷ [] = ap (λ x. given_out (answer_of s out x)) h.4 ∙ ap (all_sent_by (Shard s.part.shard) s.clock.last) h.5.1 in
+    inr (h.0, h.1, h.2, h.3, (e, is, h.5.2))
 grows_out s (msg.Answer m) served told out held h = h
 grows_out s (msg.Commit m) served told out held h = h
 grows_out s (msg.Outcome m) served told out held h = h
@@ -225,7 +225,7 @@ module _ (s : ShardState) (entries : List Entry) (served : List Served) (opens m
         last = s.clock.last;
         rises = grind arith;
         left = left t.part t.clock.last (subst (λ (c : Clock). Holds opens t.part c.last entries served) (sym at) holds);
-        grows = grows_none w served [];
+        grows = grows_none t.part.boot w served [];
         answered = nothing (OutTold served);
       }
 
@@ -258,7 +258,7 @@ module _ (s : ShardState) (entries : List Entry) (served : List Served) (opens m
         (record {
           told = served;
           left = none_left mid (told_memory (met t e) w).core.part (met t e).clock.last entries served e.msg (memory_holds t.part (met t e).clock.last entries served mid mine w.lsid w.tag);
-          grows = grows_same e.msg served (w.letter ∷ []) None;
+          grows = grows_same (told_memory (met t e) w).core.part.boot e.msg served (w.letter ∷ []) None;
           out = one (InTold served) w.letter silent;
         })
 
@@ -293,7 +293,7 @@ module _ (s : ShardState) (entries : List Entry) (served : List Served) (opens :
         last = s.clock.last;
         rises = grind arith;
         left = left_none opens s.part s.clock.last entries served w (opens, part, λ tag. refl);
-        grows = grows_none w served (given_out a);
+        grows = grows_none s.part.boot w served (given_out a);
         answered = h;
       }
 

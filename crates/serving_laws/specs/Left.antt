@@ -54,5 +54,5 @@ pub record StepServes (old : Opens) (s : ShardState) (w : Happening) (entries : 
   pub last : ℕ
   pub rises : s.clock.last ≤ last
   pub left : Left old o.core.part last o.core.clock.last entries told w o.rec
-  pub grows : Grows w served told (given_out o.answer)
+  pub grows : Grows o.core.part.boot w served told (given_out o.answer)
   pub answered : All (λ (e : Envelope). IsToldBy told e.msg) (given_out o.answer)

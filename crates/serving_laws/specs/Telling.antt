@@ -1,5 +1,5 @@
 -- What a shard's Answers tell of the statements that were served there.
-use Rattle.std.specs.Prelude.{◌≡◌, ◌⊎◌, List, [], ◌∷◌, Result, Ok, Err, Bool}
+use Rattle.std.specs.Prelude.{◌≡◌, ◌⊎◌, ℕ, List, [], ◌∷◌, Result, Ok, Err, Bool}
 use Rattle.txn_types.specs.declared.cause.Cause.{Cause}
 use Rattle.txn_types.specs.declared.cause.Cause.TheVariants as cause
 use Rattle.txn_types.specs.declared.event.Happening.{Happening}
@@ -50,12 +50,13 @@ abbrev pub IsToldBy : List Served → Msg → Type 0
 IsToldBy served (msg.Answer a) = ToldThere served a a.outcome
 IsToldBy served other = Unit {0}
 
--- What a step adds to what was served: nothing, or the statement that was delivered, whose Answer is all that it gives out.
+-- What a step adds to what was served: nothing, or the statement that was delivered, in this boot, whose Answer is all that
+-- it gives out.
 
-abbrev pub GrowsBy : Msg → List Served → List Served → List Envelope → Type 0
-GrowsBy (msg.Statement m) served told out = (told ≡ served) ⊎ ((x : Served) × (told ≡ x ∷ served) × IsOf m x × ((e : Envelope) × (out ≡ e ∷ []) × AnswersTo x e.msg))
-GrowsBy other served told out = told ≡ served
+abbrev pub GrowsBy : ℕ → Msg → List Served → List Served → List Envelope → Type 0
+GrowsBy boot (msg.Statement m) served told out = (told ≡ served) ⊎ ((x : Served) × (told ≡ x ∷ served) × IsOf m x × (x.life ≡ boot) × ((e : Envelope) × (out ≡ e ∷ []) × AnswersTo x e.msg))
+GrowsBy boot other served told out = told ≡ served
 
-abbrev pub Grows : Happening → List Served → List Served → List Envelope → Type 0
-Grows (what.Deliver e) served told out = GrowsBy e.msg served told out
-Grows other served told out = told ≡ served
+abbrev pub Grows : ℕ → Happening → List Served → List Served → List Envelope → Type 0
+Grows boot (what.Deliver e) served told out = GrowsBy boot e.msg served told out
+Grows boot other served told out = told ≡ served
