@@ -1,0 +1,4 @@
+mod Set
+mod Listed
+mod Coming
+mod Swapping

@@ -1,0 +1,26 @@
+//! Messages that a node gave out.
+ghost use Rattle.std.specs.Prelude.{◌≡◌, ◌++◌, OnOk};
+ghost use Rattle.cluster_core.specs.Naming.{given_out};
+
+use std::alloc::{AllocError, Global};
+use txn_types::{Envelope, NodeAnswer};
+
+/// Puts copies of messages behind others.
+fn put_all(alloc: Global, sent: &mut Vec<Envelope>, out: &[Envelope]) -> Result<(), AllocError>
+    ensures { OnOk result (sent.new.items ≡ sent.old.items ++ out.now) }
+{
+    for envelope in out {
+        sent.push(envelope.copy(alloc)?)?;
+    }
+    Ok(())
+}
+
+/// Puts copies of what a node gave out behind what was sent before.
+pub fn send(alloc: Global, sent: &mut Vec<Envelope>, answer: &NodeAnswer) -> Result<(), AllocError>
+    ensures { OnOk result (sent.new.items ≡ sent.old.items ++ given_out answer.now) }
+{
+    match answer {
+        NodeAnswer::Did { out, .. } => put_all(alloc, sent, out.as_slice()),
+        _ => Ok(()),
+    }
+}
