@@ -127,7 +127,7 @@ refused_there s to m told (cause.Statement err) at h = h
 refused_there s to m told other at h = tt
 
 module _ (s : ShardState) (to : NodeId) (m : Statement) (opens : Opens) (entries : List Entry) (served : List Served) where
-  grown : (told : List Served) (said : Said) → ((told ≡ served) ⊎ ((x : Served) × (told ≡ x ∷ served) × IsOf m x × (x.life ≡ s.part.boot) × IsTold said x)) → GrowsAs s.part.boot (msg.Statement m) served told (answers s to m said).out (answers s to m said).held
+  grown : (told : List Served) (said : Said) → ((told ≡ served) ⊎ ((x : Served) × (told ≡ x ∷ served) × IsOf m x × (x.life ≡ s.part.boot) × IsTold said x)) → GrowsAs (answers s to m said).core.part.boot (msg.Statement m) served told (answers s to m said).out (answers s to m said).held
   grown told said (inl h) = inl h
   grown told (Did at reply wrote) (inr h) =
       let is : participating.answer s to m at (Ok (reply, wrote)) ∷ [] ≡ participating.answer s to m at (Ok (reply, wrote)) ∷ [] = refl in

@@ -1,0 +1,11 @@
+pub mod Sessions
+pub mod Ruling
+pub mod Stepping
+pub mod Listing
+pub mod Recording
+pub mod Beginning
+pub mod Behind
+pub mod Nodes
+pub mod Asking
+pub mod Joint
+pub mod Concluding

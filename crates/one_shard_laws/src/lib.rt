@@ -1,0 +1,4 @@
+//! Laws of a cluster of one shard: what its routers are answered, over any run, is right.
+#![tactic(auto)]
+
+pub mod laws;
