@@ -1,0 +1,5 @@
+mod Ready
+mod Serving
+mod Lining
+mod Settling
+mod Queueing
