@@ -1,5 +1,4 @@
 mod Ready
 mod Serving
 mod Lining
-mod Settling
 mod Queueing

@@ -1,8 +1,7 @@
 -- What the lines bring, one after the other.
-use Rattle.std.proofs.Common.{◌≡◌, ℕ, ◌+◌, ◌<◌, ◌≤◌, Bool, true, false, cond, List, [], ◌∷◌, ◌++◌, length, nat_lt, nat_le, Option, Some, None, refl, sym, ap, subst, ◌∙◌, append_assoc, arith}
+use Rattle.std.proofs.Common.{◌≡◌, ℕ, ◌+◌, ◌<◌, Bool, true, false, cond, List, [], ◌∷◌, ◌++◌, length, nat_lt, nat_le, Option, Some, None, refl, sym, ap, subst, ◌∙◌, append_assoc, arith}
 use Rattle.std.specs.Prelude.{MatchOption}
-use Rattle.std.proofs.lemmas.List.{append-nil}
-use Rattle.std.proofs.lemmas.Bool.{le-leb, leb-true}
+use Rattle.std.proofs.lemmas.Bool.{leb-true}
 use Rattle.txn_types.specs.declared.node.NodeId.{NodeId}
 use Rattle.txn_types.specs.declared.node.NodeId.TheVariants.{Shard, Router}
 use Rattle.play_script.specs.Lines.{line_of, lines_of}
@@ -10,11 +9,11 @@ use Rattle.play_script.proofs.LineParts.{lines_of-nil}
 use Rattle.play_script.specs.declared.line.Line.{Line}
 use Rattle.play_script.specs.declared.line.Line.TheVariants as line
 use Rattle.play_steps.specs.declared.want.Want.{Want}
-use Rattle.play_steps.specs.declared.want.Want.TheVariants.{Deliver, End, Bad, Spent}
+use Rattle.play_steps.specs.declared.want.Want.TheVariants.{Deliver, End, Spent}
 use Rattle.client_streams.specs.Streams.{Connection}
 use Rattle.play_steps.specs.Player.{Player, Round, Ready, connection, shut, behind_text, wanting, idle_ready, conn_ready, serving_ready, queue_ready, round_ready, rounds, delivers, undone, ready}
 use Rattle.play_steps.specs.Lines.{Did, Next, does_where, is_there, was_sent, done_by, done_if, at_line, written, or_lines, did_next, from_lines, next}
-use Rattle.play_steps.specs.Steps.{behind_line, names_there}
+use Rattle.play_steps.specs.Steps.{behind_line}
 use Rattle.play_steps.proofs.Ready.{as_ready, as_next}
 
 -- What is ready leaves the lines.
@@ -85,24 +84,6 @@ done_lines text dump p (line.Wall secs) = refl
 done_lines text dump p line.Dump = refl
 done_lines text dump p line.Log = refl
 
--- what it names isn't there
-unnamed_where : (p : Player) (b : Bool) → b ≡ false → does_where b p ≡ None
-unnamed_where p true is = cc
-unnamed_where p false is = refl
-
-unnamed : (dump : List ℕ) (p : Player) (l : Line) → names_there p l ≡ false → done_by dump p l ≡ None
-unnamed dump p (line.Ask conn bytes) is = cc
-unnamed dump p (line.Client conn bytes) is = cc
-unnamed dump p (line.Gone conn) is = cc
-unnamed dump p (line.Deliver number) is = unnamed_where _ (was_sent p number) is
-unnamed dump p (line.Lose number) is = unnamed_where _ (was_sent p number) is
-unnamed dump p line.Settle is = cc
-unnamed dump p (line.Restart node) is = unnamed_where _ (is_there p node) is
-unnamed dump p (line.Resend node) is = unnamed_where _ (is_there p node) is
-unnamed dump p (line.Wall secs) is = cc
-unnamed dump p line.Dump is = cc
-unnamed dump p line.Log is = cc
-
 -- Texts in front of what comes next.
 
 written_twice : (a b : List ℕ) (n : Next) → written a (written b n) ≡ written (a ++ b) n
@@ -146,13 +127,6 @@ ends dump text after p none is =
     ∙ ap (λ (l : List (List ℕ)). (as_next (text ++ dump) End (record p { lines = l }))) (sym none)
     ∙ ap (λ (a : List ℕ). (as_next a End p)) (sym is)
 
--- too many lines
-pub too_many : (dump text l : List ℕ) (rest : List (List ℕ)) (p : Player) → p.lines ≡ l ∷ rest → 10000000 ≤ p.taken → written text (from_lines dump p.lines p) ≡ (text, Spent, p)
-too_many dump text l rest p is many =
-    ap (λ (ls : List (List ℕ)). written text (from_lines dump ls p)) is
-    ∙ ap (λ (b : Bool). written text (cond b (as_next [] Spent p) (did_next (at_line p rest) (done_if dump (at_line p rest) (line_of l)) (from_lines dump rest)))) (le-leb 10000000 p.taken many)
-    ∙ ap (λ (a : List ℕ). (as_next a Spent p)) (append-nil text)
-
 few_by : (n : ℕ) (b : Bool) → nat_le 10000000 n ≡ b → n < 10000000 → b ≡ false
 few_by n true is less = absurd (omega (arith, leb-true 10000000 n is, less))
 few_by n false is less = refl
@@ -161,21 +135,6 @@ taken_line : (dump text l : List ℕ) (rest : List (List ℕ)) (p : Player) → 
 taken_line dump text l rest p is few =
     ap (λ (ls : List (List ℕ)). written text (from_lines dump ls p)) is
     ∙ ap (λ (b : Bool). written text (cond b (as_next [] Spent p) (did_next (at_line p rest) (done_if dump (at_line p rest) (line_of l)) (from_lines dump rest)))) (few_by p.taken (nat_le 10000000 p.taken) refl few)
-
-no_line : (dump text : List ℕ) (q : Player) (d : Did) (f : Player → Next) → d ≡ None → written text (did_next q d f) ≡ (text, Bad q.taken, q)
-no_line dump text q d f is = ap (λ (e : Did). written text (did_next q e f)) is ∙ ap (λ (a : List ℕ). (as_next a (Bad q.taken) q)) (append-nil text)
-
-pub bad_form : (dump text l : List ℕ) (rest : List (List ℕ)) (p q : Player) → p.lines ≡ l ∷ rest → p.taken < 10000000 → q ≡ at_line p rest → None ≡ line_of l → written text (from_lines dump p.lines p) ≡ (text, Bad q.taken, q)
-bad_form dump text l rest p q is few at none =
-    taken_line dump text l rest p is few
-    ∙ no_line dump text (at_line p rest) _ (from_lines dump rest) (ap (done_if dump (at_line p rest)) (sym none))
-    ∙ ap (λ (r : Player). (as_next text (Bad r.taken) r)) (sym at)
-
-pub bad_name : (dump text l : List ℕ) (rest : List (List ℕ)) (p q : Player) (asked : Line) → p.lines ≡ l ∷ rest → p.taken < 10000000 → q ≡ at_line p rest → Some asked ≡ line_of l → names_there q asked ≡ false → written text (from_lines dump p.lines p) ≡ (text, Bad q.taken, q)
-bad_name dump text l rest p q asked is few at form there =
-    taken_line dump text l rest p is few
-    ∙ no_line dump text (at_line p rest) _ (from_lines dump rest) (ap (done_if dump (at_line p rest)) (sym form) ∙ unnamed dump (at_line p rest) asked (subst (λ (r : Player). names_there r asked ≡ false) at there))
-    ∙ ap (λ (r : Player). (as_next text (Bad r.taken) r)) (sym at)
 
 -- a line that is done
 or_by : (r : Ready) (o : Option Want) (f g : Player → Next) → f r.2 ≡ g r.2 → or_lines (r.0, o, r.2) f ≡ or_lines (r.0, o, r.2) g
@@ -202,9 +161,6 @@ done dump text after l rest p mid q asked is few at form behind =
     taken_line dump text l rest p is few
     ∙ ap (λ (o : Option Line). written text (did_next (at_line p rest) (done_if dump (at_line p rest) o) (from_lines dump rest))) (sym form)
     ∙ done_case dump text after (at_line p rest) q (done_by dump (at_line p rest) asked) rest kept behind'
-
-pub kept_lines : (dump text after : List ℕ) (mid q : Player) (asked : Line) → ◌≡◌ {A = Bool × List ℕ × Player} (behind_line text mid (done_by dump mid asked)) (true, after, q) → q.lines ≡ mid.lines
-kept_lines dump text after mid q asked is = ap (λ (x : Bool × List ℕ × Player). x.2.lines) (sym is) ∙ done_lines text dump mid asked
 
 -- by what a line brings
 pub line_ends : (dump text after : List ℕ) (p q : Player) (o : Option Want) (w : Want) → o ≡ Some w

@@ -1,16 +1,13 @@
 -- What lines ask for, one behind the other; and what is written of messages.
-use Rattle.std.proofs.Common.{◌≡◌, ℕ, suc, ◌+◌, ◌-◌, ◌<◌, Bool, true, false, List, [], ◌∷◌, ◌++◌, map, length, refl, sym, ap, ◌∙◌, append_assoc, arith}
+use Rattle.std.proofs.Common.{◌≡◌, ℕ, suc, ◌+◌, ◌-◌, ◌<◌, List, [], ◌∷◌, ◌++◌, map, sym, ap, ◌∙◌, append_assoc, arith}
 use Rattle.std.specs.List.{range_with_len}
 use Rattle.std.proofs.lemmas.List.{append-nil}
 use Rattle.txn_types.specs.declared.event.Happening.TheVariants as what
 use Rattle.txn_types.specs.declared.node.NodeId.TheVariants.{Shard, Router}
-use Rattle.txn_types.specs.declared.message.Envelope.{Envelope}
-use Rattle.play_text.specs.Text.{sent_line}
 use Rattle.play_steps.specs.declared.want.Want.{Want}
 use Rattle.play_steps.specs.declared.want.Want.TheVariants.{Event}
 use Rattle.play_steps.specs.Player.{Player}
 use Rattle.play_steps.specs.Lines.{queued, moments}
-use Rattle.play_steps.specs.Taking.{sent_lines, where_logs, with_sent}
 
 queued_more : (p : Player) (w : Want) (ws : List Want) → queued (queued p (w ∷ [])) ws ≡ queued p (w ∷ ws)
 queued_more p w ws = ap (λ (q : List Want). record p { queue = q }) (append_assoc p.queue (w ∷ []) ws)
@@ -54,23 +51,3 @@ no_more f p k n more is = ap (λ (ks : List ℕ). queued p (map f ks ++ more)) (
 
 pub queued_none : (p : Player) → queued p [] ≡ p
 queued_none p = ap (λ (q : List Want). record p { queue = q }) (append-nil p.queue)
-
--- lines of messages
-where_both : (b : Bool) (x y : List ℕ) → where_logs b x ++ where_logs b y ≡ where_logs b (x ++ y)
-where_both true x y = refl
-where_both false x y = refl
-
-pub sent_more : (logs : Bool) (number : ℕ) (e : Envelope) (es : List Envelope) (before after : List ℕ) → after ≡ before ++ where_logs logs (sent_line number e) → after ++ where_logs logs (sent_lines (number + 1) es) ≡ before ++ where_logs logs (sent_lines number (e ∷ es))
-sent_more logs number e es before after is =
-    ap (λ (t : List ℕ). t ++ where_logs logs (sent_lines (number + 1) es)) is
-    ∙ append_assoc before (where_logs logs (sent_line number e)) (where_logs logs (sent_lines (number + 1) es))
-    ∙ ap (λ (t : List ℕ). before ++ t) (where_both logs (sent_line number e) (sent_lines (number + 1) es))
-
-pub with_more : (p q : Player) (e : Envelope) (es : List Envelope) → q ≡ record p { sent = p.sent + 1; pending = p.pending ++ p.sent ∷ [] } → with_sent q es ≡ with_sent p (e ∷ es)
-with_more p q e es is =
-    ap (λ (r : Player). with_sent r es) is
-    ∙ ap (λ (n : ℕ). record p { sent = n; pending = p.pending ++ p.sent ∷ [] ++ range_with_len (p.sent + 1) (length es) }) (sums p.sent (length es))
-    ∙ ap (λ (ns : List ℕ). record p { sent = p.sent + suc (length es); pending = ns }) (append_assoc p.pending (p.sent ∷ []) (range_with_len (p.sent + 1) (length es)))
-  where
-    sums : (a b : ℕ) → a + 1 + b ≡ a + suc b
-    sums a b = omega arith

@@ -8,7 +8,7 @@ use Rattle.play_text.specs.Text.{closed_line}
 use Rattle.play_steps.specs.declared.want.Want.{Want}
 use Rattle.play_steps.specs.declared.want.Want.TheVariants.{Event}
 use Rattle.client_streams.specs.declared.connection.Turn.TheVariants.{Message, Fault, Nothing}
-use Rattle.play_steps.specs.Player.{Player, Ready, connection, with_conn, router_of, shut, behind_text, wanting, gives, idle_ready, conn_ready, serving_ready, queue_ready, ready}
+use Rattle.play_steps.specs.Player.{Player, Ready, connection, with_conn, router_of, shut, behind_text, wanting, gives, idle_ready, conn_ready, serving_ready, ready}
 use Rattle.client_streams.specs.Streams.{Connection}
 use Rattle.client_streams.specs.Turns.{turn_by, turn_of, taken_from}
 use Rattle.client_streams.proofs.Places.{conn_in}
@@ -111,14 +111,6 @@ gives_next p q conn (Some x) text start first turn some is before =
     sym before
     ∙ ap (behind_text text) (given p q conn some.0 x first turn some.1 some.2 is)
     ∙ ap (λ (t : List ℕ). (as_ready t (Some x) q)) (append-nil text)
-
--- no connection is to be served
-pub queue_is : (p q : Player) (text : List ℕ) (w : Option Want) → p.serving ≡ [] → queue_ready p p.queue ≡ ([], w, q) → behind_text text (ready p) ≡ (text, w, q)
-queue_is p q text w none is =
-    ap (λ (s : List ℕ). behind_text text (serving_ready p s)) none
-    ∙ ap (λ (s : List ℕ). behind_text text (queue_ready (serves p s) p.queue)) (sym none)
-    ∙ ap (behind_text text) is
-    ∙ ap (λ (t : List ℕ). (as_ready t w q)) (append-nil text)
 
 pub behind_behind : (a b : List ℕ) (r : Ready) → behind_text a (behind_text b r) ≡ behind_text (a ++ b) r
 behind_behind a b r = ap (λ (t : List ℕ). (as_ready t r.1 r.2)) (sym (append_assoc a b r.0))
