@@ -1,0 +1,4 @@
+mod Ready
+mod Serving
+mod Lining
+mod Queueing

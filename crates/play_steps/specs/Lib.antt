@@ -1,0 +1,4 @@
+pub mod Player
+pub mod Lines
+pub mod Taking
+pub mod Steps
