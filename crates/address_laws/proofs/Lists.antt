@@ -1,0 +1,139 @@
+-- What holds of each element of lists under keys. (Most of this stands in world_laws too, where it
+-- can't be cited: its modules Naming, PartTimes and Lists aren't public.)
+use Rattle.std.proofs.Common.{◌≡◌, ◌⊎◌, inl, inr, ◌<◌, ◌≤◌, ◌+◌, ℕ, suc, zero, Bool, true, false}
+use Rattle.std.proofs.Common.{cond, find, All, List, [], ◌∷◌, map, length, Option, Some, None}
+use Rattle.std.proofs.Common.{IfSome, option_map, refl, ap, subst, nat_eq, nat_lt, arith}
+use Rattle.std.specs.Prelude.{slice_get, slice_set}
+use Rattle.std.specs.List.{range_with_len, cons_option}
+use Rattle.std.specs.declared.cmp.Ordering.{Ordering}
+use Rattle.std.specs.declared.cmp.Ordering.TheVariants.{Less, Equal, Greater}
+use Rattle.std.proofs.lemmas.List.Elements.{All-nil, All-cons, All-head, All-tail, All-map}
+use Rattle.std.proofs.lemmas.List.Elements.{All-weaker}
+use Rattle.txn_types.specs.BySession.{BySession, with_entry, entry_of}
+use Rattle.txn_types.specs.Numbers.{put_number}
+use Rattle.txn_types.specs.Order.{same_lsid}
+use Rattle.txn_types.specs.declared.node.Lsid.{Lsid}
+use Rattle.txn_semantics.specs.Keyed.{put, taken_out}
+use Rattle.participant.proofs.Cases.{either}
+
+pub one : {A : Type 0} (P : A → Type 0) (x : A) → P x → All P (x ∷ [])
+one P x h = All-cons P x [] h (All-nil P)
+
+pub each_of : {A B : Type 0} (Q : A → Type 0) (P : B → Type 0) (f : A → B)
+    → ((x : A) → Q x → P (f x)) → (xs : List A) → All Q xs → All P (map f xs)
+each_of {A = A} Q P f h xs k = All-map P f xs (All-weaker Q (λ (x : A). P (f x)) h xs k)
+
+-- Under keys.
+
+put_by : {K A : Type 0} (cmp : K → K → Ordering) (Q : K × A → Type 0) (key : K) (a : A)
+    (row : K × A) (rows : List (K × A)) (o : Ordering)
+    → Q (key, a) → Q row → All Q rows → All Q (put cmp key a rows)
+    → All Q (elim o [
+      | Less ↦ (key, a) ∷ row ∷ rows
+      | Equal ↦ (key, a) ∷ rows
+      | Greater ↦ row ∷ put cmp key a rows
+    ])
+put_by cmp Q key a row rows Less new one more puts =
+    All-cons Q (key, a) (row ∷ rows) new (All-cons Q row rows one more)
+put_by cmp Q key a row rows Equal new one more puts = All-cons Q (key, a) rows new more
+put_by cmp Q key a row rows Greater new one more puts = All-cons Q row (put cmp key a rows) one puts
+
+pub put_all : {K A : Type 0} (cmp : K → K → Ordering) (Q : K × A → Type 0) (key : K) (a : A)
+    (rows : List (K × A)) → Q (key, a) → All Q rows → All Q (put cmp key a rows)
+put_all cmp Q key a [] new h = one Q (key, a) new
+put_all cmp Q key a (row ∷ rows) new h =
+    put_by cmp Q key a row rows (cmp key row.0) new (All-head Q row rows h) (All-tail Q row rows h)
+    (put_all cmp Q key a rows new (All-tail Q row rows h))
+
+taken_by : {K A : Type 0} (cmp : K → K → Ordering) (Q : K × A → Type 0) (key : K) (row : K × A)
+    (rows : List (K × A)) (o : Ordering)
+    → Q row → All Q rows → All Q (taken_out cmp key rows) → All Q (elim o
+    [ Less ↦ row ∷ rows | Equal ↦ rows | Greater ↦ row ∷ taken_out cmp key rows ])
+taken_by cmp Q key row rows Less one more takes = All-cons Q row rows one more
+taken_by cmp Q key row rows Equal one more takes = more
+taken_by cmp Q key row rows Greater one more takes =
+    All-cons Q row (taken_out cmp key rows) one takes
+
+pub taken_all : {K A : Type 0} (cmp : K → K → Ordering) (Q : K × A
+    → Type 0) (key : K) (rows : List (K × A)) → All Q rows → All Q (taken_out cmp key rows)
+taken_all cmp Q key [] h = h
+taken_all cmp Q key (row ∷ rows) h =
+    taken_by cmp Q key row rows (cmp key row.0) (All-head Q row rows h) (All-tail Q row rows h)
+    (taken_all cmp Q key rows (All-tail Q row rows h))
+
+-- what stands behind the first key that a test takes
+found_by : {K A : Type 0} (R : A → Type 0) (entry : K × A) (more : Option (K × A))
+    (test : Bool) (a : A)
+    → R entry.1 → (option_map (λ (e : K × A). e.1) more ≡ Some a → R a)
+    → option_map (λ (e : K × A). e.1) (cond test (Some entry) more) ≡ Some a → R a
+found_by R entry more true a h k e = let is : entry.1 ≡ a = grind arith in subst R is h
+found_by R entry more false a h k e = k e
+
+pub found : {K A : Type 0} (R : A → Type 0) (test : K × A → Bool) (entries : List (K × A))
+    → All (λ (e : K × A). R e.1) entries
+    → (a : A) → option_map (λ (e : K × A). e.1) (find test entries) ≡ Some a → R a
+found R test [] h a e = grind arith
+found {K = K} {A = A} R test (entry ∷ entries) h a e =
+    found_by R entry (find test entries) (test entry) a
+    (All-head (λ (e : K × A). R e.1) entry entries h)
+    (found R test entries (All-tail (λ (e : K × A). R e.1) entry entries h) a) e
+
+-- Of sessions.
+
+pub entries_put : {A : Type 0} (R : Lsid × A → Type 0) (lsid : Lsid) (a : A) (entries : BySession A)
+    → R (lsid, a) → All R entries → All R (with_entry lsid a entries)
+entries_put R lsid a [] this h = one R (lsid, a) this
+entries_put R lsid a (entry ∷ entries) this h =
+    either (same_lsid lsid entry.0) (All R) _ _
+    (All-cons R (lsid, a) entries this (All-tail R entry entries h))
+    (All-cons R entry (with_entry lsid a entries) (All-head R entry entries h)
+    (entries_put R lsid a entries this (All-tail R entry entries h)))
+
+pub entry_has : {A : Type 0} (R : A → Type 0) (lsid : Lsid) (entries : BySession A)
+    → All (λ (e : Lsid × A). R e.1) entries → (a : A) → entry_of lsid entries ≡ Some a → R a
+entry_has {A = A} R lsid entries h a e =
+    found R (λ (e : Lsid × A). same_lsid lsid e.0) entries h a e
+
+-- Of numbers.
+
+pub numbers_put : (P : ℕ → Type 0) (n : ℕ) (ms : List ℕ) → P n → All P ms → All P (put_number n ms)
+numbers_put P n [] this h = one P n this
+numbers_put P n (m ∷ ms) this h =
+    either (nat_lt n m) (All P) _ _ (All-cons P n (m ∷ ms) this h)
+    (either (nat_eq n m) (All P) _ _ h (All-cons P m (put_number n ms) (All-head P m ms h)
+    (numbers_put P n ms this (All-tail P m ms h))))
+
+pub option_put : {A : Type 0} (P : A → Type 0) (o : Option A) (xs : List A) → IfSome o P → All P xs
+    → All P (cons_option o xs)
+option_put P None xs h k = k
+option_put P (Some x) xs h k = All-cons P x xs h k
+
+-- numbers from one on
+pub range_all : (P : ℕ → Type 0) (bound from count : ℕ) → from + count ≤ bound
+    → ((n : ℕ) → n < bound → P n) → All P (range_with_len from count)
+range_all P bound from zero fits h = All-nil P
+range_all P bound from (suc count) fits h =
+    All-cons P from (range_with_len (from + 1) count) (h from (omega (arith, fits)))
+    (range_all P bound (from + 1) count (omega (arith, fits)) h)
+
+-- Of places.
+
+pub get_set : {A : Type 0} (xs : List A) (i j : ℕ) (y x : A)
+    → slice_get (slice_set xs i y) j ≡ Some x → ((j ≡ i) × (y ≡ x)) ⊎ (slice_get xs j ≡ Some x)
+get_set [] i j y x e = inr e
+get_set (a ∷ xs) zero zero y x e = inl (refl, grind arith)
+get_set (a ∷ xs) zero (suc j) y x e = inr e
+get_set (a ∷ xs) (suc i) zero y x e = inr e
+get_set (a ∷ xs) (suc i) (suc j) y x e =
+    elim (get_set xs i j y x e) [ inl h ↦ inl (ap suc h.0, h.1) | inr h ↦ inr h ]
+
+pub set_length : {A : Type 0} (xs : List A) (i : ℕ) (y : A) → length (slice_set xs i y) ≡ length xs
+set_length [] i y = refl
+set_length (a ∷ xs) zero y = refl
+set_length (a ∷ xs) (suc i) y = ap suc (set_length xs i y)
+
+pub set_there : {A : Type 0} (xs : List A) (i : ℕ) (y x : A) → slice_get xs i ≡ Some x
+    → slice_get (slice_set xs i y) i ≡ Some y
+set_there [] i y x e = grind arith
+set_there (a ∷ xs) zero y x e = refl
+set_there (a ∷ xs) (suc i) y x e = set_there xs i y x e

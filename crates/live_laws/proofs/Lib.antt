@@ -1,0 +1,3 @@
+mod Opens
+mod Steps
+pub mod Standing
