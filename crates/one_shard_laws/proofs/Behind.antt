@@ -1,7 +1,11 @@
 -- What holds of a shard that runs holds behind its step.
-use Rattle.std.proofs.Common.{◌≡◌, ◌⊎◌, inl, inr, ◌≤◌, ◌<◌, ⊎_elim, ◌<ℤ◌, ◌≤ℤ◌, ◌++◌, ℕ, ℤ, Bool, true, false, List, [], ◌∷◌, filter_map, All, Contains, Option, Some, None, IfSome, Result, Ok, Err, refl, ap, subst, ◌∙◌, sym, arith, unwrap_or, IsSomeAnd}
+use Rattle.std.proofs.Common.{◌≡◌, ◌⊎◌, inl, inr, ◌≤◌, ◌<◌, ⊎_elim, ◌<ℤ◌, ◌≤ℤ◌, ◌++◌, ℕ, ℤ, Bool}
+use Rattle.std.proofs.Common.{List, [], ◌∷◌, filter_map, All, Contains, Option, Some}
+use Rattle.std.proofs.Common.{None, IfSome, Result, Ok, Err, refl, ap, subst, ◌∙◌, sym, arith}
+use Rattle.std.proofs.Common.{IsSomeAnd}
 use Rattle.std.proofs.lemmas.List.{append_assoc, append-nil}
-use Rattle.std.proofs.lemmas.List.Elements.{All-nil, All-cons, All-head, All-tail, All-append, All-weaker, All-contains, All-contains_itself}
+use Rattle.std.proofs.lemmas.List.Elements.{All-nil, All-cons, All-head, All-tail}
+use Rattle.std.proofs.lemmas.List.Elements.{All-weaker, All-contains, All-contains_itself}
 use Rattle.txn_types.specs.declared.cause.Cause.{Cause}
 use Rattle.txn_types.specs.declared.cause.Cause.TheVariants as cause
 use Rattle.txn_types.specs.declared.event.Happening.{Happening}
@@ -14,41 +18,41 @@ use Rattle.txn_types.specs.declared.message.Msg.TheVariants as msg
 use Rattle.txn_types.specs.declared.message.Statement.{Statement}
 use Rattle.txn_types.specs.declared.names.Tag.{Tag}
 use Rattle.txn_types.specs.declared.node.Lsid.{Lsid}
-use Rattle.txn_types.specs.declared.operation.OpErr.{OpErr}
 use Rattle.txn_types.specs.declared.operation.OpReply.{OpReply}
 use Rattle.txn_types.specs.declared.write.Write.{Write}
 use Rattle.txn_semantics.specs.declared.commits.Entry.{Entry}
-use Rattle.txn_semantics.specs.Meaning.{Meaning, reply_of}
+use Rattle.txn_semantics.specs.Meaning.{Meaning}
 use Rattle.session_table.specs.Sessions.{Table, session_of}
 use Rattle.session_table.specs.declared.session.Session.{Session}
 use Rattle.journal_rec.specs.declared.record.Rec.{Rec}
 use Rattle.journal_rec.specs.declared.record.Rec.TheVariants as rec
 use Rattle.participant.specs.Part.{Part, session}
 use Rattle.shard_image.specs.Image.{Image, image_of}
-use Rattle.part_laws.specs.Each.{Each, Among}
+use Rattle.part_laws.specs.Each.{Each}
 use Rattle.part_laws.specs.Sound.{Opens, Served}
-use Rattle.part_laws.specs.Parts.{IsServing, Holds, IsRefusedBy}
+use Rattle.part_laws.specs.Parts.{IsServing, Holds}
 use Rattle.part_laws.specs.Kept.{CommitsBy}
-use Rattle.part_laws.specs.Turned.{IsOf}
 use Rattle.part_laws.proofs.Elapsed.{clock_holds}
 use Rattle.shard_core.specs.State.{ShardState}
 use Rattle.shard_core.specs.Core.{Room, CoreStep, core_step}
 use Rattle.shard_core.specs.Durable.{HasSession}
 use Rattle.shard_core.specs.Laws.{KeepsTime}
 use Rattle.shard_core.specs.NodeStep.{ceiling_append, record_append, appends_of, joined}
-use Rattle.durable_laws.specs.Backed.{IsBacked}
 use Rattle.durable_laws.proofs.Facts.{image_append, one_of_each}
 use Rattle.durable_laws.proofs.Stepping.{step_is_backed}
 use Rattle.cluster_core.specs.Naming.{Named, named_in, given_out}
 use Rattle.world_laws.specs.Effect.{NamesBy}
 use Rattle.serving_laws.specs.Coming.{MsgComes, EventComes}
 use Rattle.serving_laws.specs.Left.{CoordinatesOnly, NoneButCoord, LeftBy, Left, StepServes}
-use Rattle.serving_laws.specs.Telling.{Tells, IsAnswerOf, AnswersTo, RefusedThere, ToldThere, IsToldBy, GrowsBy, Grows}
+use Rattle.serving_laws.specs.Telling.{Tells, AnswersTo, RefusedThere, ToldThere}
+use Rattle.serving_laws.specs.Telling.{IsToldBy, GrowsBy, Grows}
 use Rattle.serving_laws.proofs.Stepping.{step_serves}
-use Rattle.one_shard_laws.specs.Sessions.{AtLeast, SessionsNamed, TablesGo, GoesOn, IsHeld, IsOnce}
-use Rattle.one_shard_laws.specs.Alone.{IsAlone, EventAlone, IsMeant, IsServedBy, AnswerAtLeast, ServedAtLeast, RecAlone, RecHeld, HasNumber, EventAtLeast, StepAlone}
+use Rattle.one_shard_laws.specs.Sessions.{AtLeast, GoesOn, IsHeld, IsOnce}
+use Rattle.one_shard_laws.specs.Alone.{IsAlone, EventAlone, IsServedBy, AnswerAtLeast}
+use Rattle.one_shard_laws.specs.Alone.{ServedAtLeast, RecHeld, HasNumber, EventAtLeast}
+use Rattle.one_shard_laws.specs.Alone.{StepAlone}
 use Rattle.one_shard_laws.specs.Lasting.{WasNamed, WasAsked, commits_by, RecordsAlone, Lasts, Runs}
-use Rattle.one_shard_laws.proofs.Sessions.{least_then, below_above, one_some}
+use Rattle.one_shard_laws.proofs.Sessions.{below_above, one_some}
 use Rattle.one_shard_laws.proofs.Stepping.{step_alone}
 use Rattle.one_shard_laws.proofs.Listing.{each_more, each_last, ceiling_more, commit_more}
 use Rattle.one_shard_laws.proofs.Recording.{held_on, ceiling_alone, commit_alone}
@@ -56,27 +60,35 @@ use Rattle.one_shard_laws.proofs.Beginning.{is_new}
 
 -- Answers tell of what was served, where more is served.
 
-refused_more : (x : Served) (served : List Served) (a : Answer) (why : Cause) → RefusedThere served a why → RefusedThere (x ∷ served) a why
+refused_more : (x : Served) (served : List Served) (a : Answer) (why : Cause)
+    → RefusedThere served a why → RefusedThere (x ∷ served) a why
 refused_more x served a (cause.Statement err) h = (h.0, inr h.1, h.2, h.3, h.4)
 refused_more x served a other h = tt
 
-there_more : (x : Served) (served : List Served) (a : Answer) (o : Result (OpReply × Bool) Cause) → ToldThere served a o → ToldThere (x ∷ served) a o
+there_more : (x : Served) (served : List Served) (a : Answer) (o : Result (OpReply × Bool) Cause)
+    → ToldThere served a o → ToldThere (x ∷ served) a o
 there_more x served a (Ok done) h = (h.0, inr h.1, h.2, h.3, h.4, h.5)
 there_more x served a (Err why) h = refused_more x served a why h
 
-told_more : (x : Served) (served : List Served) (m : Msg) → IsToldBy served m → IsToldBy (x ∷ served) m
+told_more : (x : Served) (served : List Served) (m : Msg) → IsToldBy served m
+    → IsToldBy (x ∷ served) m
 told_more x served (msg.Answer a) h = there_more x served a a.outcome h
 told_more x served other h = tt
 
-all_told_more : (x : Served) (served : List Served) (sent : List Envelope) → All (λ (e : Envelope). IsToldBy served e.msg) sent → All (λ (e : Envelope). IsToldBy (x ∷ served) e.msg) sent
-all_told_more x served sent h = All-weaker (λ (e : Envelope). IsToldBy served e.msg) (λ (e : Envelope). IsToldBy (x ∷ served) e.msg) (λ e k. told_more x served e.msg k) sent h
+all_told_more : (x : Served) (served : List Served) (sent : List Envelope)
+    → All (λ (e : Envelope). IsToldBy served e.msg) sent
+    → All (λ (e : Envelope). IsToldBy (x ∷ served) e.msg) sent
+all_told_more x served sent h = All-weaker (λ (e : Envelope). IsToldBy served e.msg)
+    (λ (e : Envelope). IsToldBy (x ∷ served) e.msg) (λ e k. told_more x served e.msg k) sent h
 
 -- What a step appends.
 
-pub none_appended : (recs : List Rec) → recs ++ joined (ceiling_append None ++ record_append None) ≡ recs
+pub none_appended : (recs : List Rec)
+    → recs ++ joined (ceiling_append None ++ record_append None) ≡ recs
 none_appended recs = append-nil recs
 
-pub both_appended : (recs : List Rec) (bound : ℕ) (r : Rec) → recs ++ joined (ceiling_append (Some bound) ++ record_append (Some r)) ≡ (recs ++ rec.Ceiling bound ∷ []) ++ r ∷ []
+pub both_appended : (recs : List Rec) (bound : ℕ) (r : Rec) → recs ++ joined (ceiling_append
+    (Some bound) ++ record_append (Some r)) ≡ (recs ++ rec.Ceiling bound ∷ []) ++ r ∷ []
 both_appended recs bound r = sym (append_assoc recs (rec.Ceiling bound ∷ []) (r ∷ []))
 
 -- What comes was sent, and what a message names that was sent was named.
@@ -95,20 +107,27 @@ names sent = filter_map (λ e. named_in e.msg) sent
 abbrev IsNamed : (Named → Type 0) → Envelope → Type 0
 IsNamed P e = IfSome (named_in e.msg) P
 
-first_named : (P : Named → Type 0) (e : Envelope) (sent : List Envelope) (n : Option Named) → named_in e.msg ≡ n → All P (names (e ∷ sent)) → (All P (names sent) → All (IsNamed P) sent) → All (IsNamed P) (e ∷ sent)
+first_named : (P : Named → Type 0) (e : Envelope) (sent : List Envelope) (n : Option Named)
+    → named_in e.msg ≡ n → All P (names (e ∷ sent)) → (All P (names sent) → All (IsNamed P) sent)
+    → All (IsNamed P) (e ∷ sent)
 first_named P e sent None is h more =
-    let rest : All P (names sent) = subst (λ (o : Option Named). All P (with_name o (names sent))) is h in
+    let rest : All P (names sent) =
+    subst (λ (o : Option Named). All P (with_name o (names sent))) is h in
     All-cons (IsNamed P) e sent (subst (λ (o : Option Named). IfSome o P) (sym is) tt) (more rest)
 first_named P e sent (Some n) is h more =
-    let all : All P (n ∷ names sent) = subst (λ (o : Option Named). All P (with_name o (names sent))) is h in
-    All-cons (IsNamed P) e sent (subst (λ (o : Option Named). IfSome o P) (sym is) (All-head P n (names sent) all)) (more (All-tail P n (names sent) all))
+    let all : All P (n ∷ names sent) =
+    subst (λ (o : Option Named). All P (with_name o (names sent))) is h in
+    All-cons (IsNamed P) e sent (subst (λ (o : Option Named). IfSome o P) (sym is)
+    (All-head P n (names sent) all)) (more (All-tail P n (names sent) all))
 
 all_named : (P : Named → Type 0) (sent : List Envelope) → All P (names sent) → All (IsNamed P) sent
 all_named P [] h = All-nil (IsNamed P)
 all_named P (e ∷ sent) h = first_named P e sent (named_in e.msg) refl h (λ k. all_named P sent k)
 
-pub sent_named : (sent : List Envelope) (e : Envelope) → Contains sent e → IfSome (named_in e.msg) (WasNamed sent)
-sent_named sent e h = All-contains (IsNamed (WasNamed sent)) sent e (all_named (WasNamed sent) sent (All-contains_itself (names sent))) h
+pub sent_named : (sent : List Envelope) (e : Envelope) → Contains sent e
+    → IfSome (named_in e.msg) (WasNamed sent)
+sent_named sent e h = All-contains (IsNamed (WasNamed sent)) sent e (all_named (WasNamed sent) sent
+    (All-contains_itself (names sent))) h
 
 event_named : (sent : List Envelope) (w : Happening) → WasSent sent w → NamesBy (WasNamed sent) w
 event_named sent (what.Deliver e) h = sent_named sent e h
@@ -116,7 +135,8 @@ event_named sent other h = tt
 
 -- What is left behind a message: the commits stay, or one commit more is there.
 
-pub record Committed (q : Part) (mid : ℕ) (entries : List Entry) (told : List Served) (opens : Opens) (r : Option Rec) : Type 0 where
+pub record Committed (q : Part) (mid : ℕ) (entries : List Entry) (told : List Served)
+    (opens : Opens) (r : Option Rec) : Type 0 where
   pub tag : Tag
   pub lsid : Lsid
   pub number : ℤ
@@ -125,9 +145,11 @@ pub record Committed (q : Part) (mid : ℕ) (entries : List Entry) (told : List 
   pub writes : List Write
   pub is : r ≡ Some (rec.Commit tag lsid number read_at at writes)
   pub above : mid < at
-  pub holds : Holds opens q at (entries ++ record { tag = tag; read_at = read_at; at = at; writes = writes } ∷ []) told
+  pub holds : Holds opens q at
+      (entries ++ record { tag = tag; read_at = read_at; at = at; writes = writes } ∷ []) told
 
-module _ (P : Named → Type 0) (before q : Part) (opens : Opens) (mid later : ℕ) (entries : List Entry) (told : List Served) where
+module _ (P : Named → Type 0) (before q : Part) (opens : Opens) (mid later : ℕ)
+    (entries : List Entry) (told : List Served) where
   abbrev IsRecorded : Option Rec → Type 0
   IsRecorded r = IfSome r (λ (r : Rec). (p : Part) × GoesOn P before p × RecHeld P p q later r)
 
@@ -145,14 +167,25 @@ module _ (P : Named → Type 0) (before q : Part) (opens : Opens) (mid later : �
   not_both p (rec.Decided d) h k = h
   not_both p (rec.Floor floor) h k = h
 
-  stays : (r : Option Rec) → IsRecorded r → Holds opens q later entries told × NoneButCoord r → Leaves r
+  stays : (r : Option Rec) → IsRecorded r
+      → Holds opens q later entries told × NoneButCoord r → Leaves r
   stays None h k = inl (refl, k.0)
   stays (Some r) h k = absurd (not_both h.0 r h.2 k.1)
 
   commits : (r : Option Rec) → CommitsBy opens q mid later entries told r → Leaves r
   commits None h = inl (refl, subst (λ (last : ℕ). Holds opens q last entries told) (sym h.0) h.1)
   commits (Some (rec.Commit tag lsid number read_at at writes)) h =
-      inr (record { tag = tag; lsid = lsid; number = number; read_at = read_at; at = at; writes = writes; is = refl; above = h.0; holds = h.1 entries [] (sym (append-nil entries)) tt })
+      inr (record {
+        tag = tag;
+        lsid = lsid;
+        number = number;
+        read_at = read_at;
+        at = at;
+        writes = writes;
+        is = refl;
+        above = h.0;
+        holds = h.1 entries [] (sym (append-nil entries)) tt;
+      })
   commits (Some (rec.Boot boot)) h = absurd h
   commits (Some (rec.Ceiling bound)) h = absurd h
   commits (Some (rec.Prepared tag lsid number boot read_at at coordinator writes)) h = absurd h
@@ -162,7 +195,8 @@ module _ (P : Named → Type 0) (before q : Part) (opens : Opens) (mid later : �
   commits (Some (rec.CoordEnd tag)) h = absurd h
   commits (Some (rec.Floor floor)) h = absurd h
 
-  msg_leaves : (m : Msg) (r : Option Rec) → IsAlone m → IsRecorded r → LeftBy opens q mid later entries told m r → Leaves r
+  msg_leaves : (m : Msg) (r : Option Rec) → IsAlone m → IsRecorded r
+      → LeftBy opens q mid later entries told m r → Leaves r
   msg_leaves (msg.Commit m) r alone h k = commits r k
   msg_leaves (msg.Statement m) r alone h k = stays r h k
   msg_leaves (msg.Answer m) r alone h k = stays r h k
@@ -176,7 +210,8 @@ module _ (P : Named → Type 0) (before q : Part) (opens : Opens) (mid later : �
   msg_leaves (msg.Decide m) r alone h k = absurd alone
   msg_leaves (msg.Acked m) r alone h k = absurd alone
 
-  pub leaves : (w : Happening) (r : Option Rec) → EventAlone w → IsRecorded r → Left opens q mid later entries told w r → Leaves r
+  pub leaves : (w : Happening) (r : Option Rec) → EventAlone w → IsRecorded r
+      → Left opens q mid later entries told w r → Leaves r
   leaves (what.Deliver e) r alone h k = msg_leaves e.msg r alone h k
   leaves (what.Client conn frame) r alone h k = stays r h k
   leaves (what.Gone conn) r alone h k = stays r h k
@@ -190,7 +225,8 @@ served_by meaning (Ok done) h = tt
 served_by meaning (Err (cause.Statement err)) h = tt
 served_by meaning (Err other) h = absurd h
 
-answer_least : (x : Served) (m : Statement) (q : Part) (a : Msg) → AnswersTo x a → AnswerAtLeast q m a → AtLeast q.sessions m.lsid m.number
+answer_least : (x : Served) (m : Statement) (q : Part) (a : Msg) → AnswersTo x a
+    → AnswerAtLeast q m a → AtLeast q.sessions m.lsid m.number
 answer_least x m q (msg.Answer a) h k = k (served_by x.meaning a.outcome h.outcome)
 answer_least x m q other h k = absurd h
 
@@ -199,14 +235,29 @@ module _ (sent : List Envelope) (served told : List Served) (q : Part) where
   P = WasNamed sent
 
   abbrev Grew : Type 0
-  Grew = (told ≡ served) ⊎ ((x : Served) × (told ≡ x ∷ served) × WasAsked sent x × (x.life ≡ q.boot) × IsHeld P q.sessions x.tag)
+  Grew = (told ≡ served) ⊎ ((x : Served) × (told ≡ x ∷ served) × WasAsked sent x × (x.life ≡ q.boot)
+      × IsHeld P q.sessions x.tag)
 
-  grew_by : (e : Envelope) (m : Msg) (out : List Envelope) → e.msg ≡ m → Contains sent e → IfSome (named_in m) P → GrowsBy q.boot m served told out → All (λ (a : Envelope). ServedAtLeast q m a.msg) out → Grew
+  grew_by : (e : Envelope) (m : Msg) (out : List Envelope) → e.msg ≡ m
+      → Contains sent e → IfSome (named_in m) P → GrowsBy q.boot m served told out
+      → All (λ (a : Envelope). ServedAtLeast q m a.msg) out → Grew
   grew_by e (msg.Statement m) out is there named (inl h) all = inl h
   grew_by e (msg.Statement m) out is there named (inr h) all =
       let a : Envelope = h.4.0 in
-      let one : AnswerAtLeast q m a.msg = All-head (λ (a : Envelope). AnswerAtLeast q m a.msg) a [] (subst (All (λ (a : Envelope). AnswerAtLeast q m a.msg)) h.4.1 all) in
-      inr (h.0, h.1, (e, m, there, is, h.2), h.3, (record { tag = m.tag; lsid = m.lsid; number = m.number }, named, sym h.2.0, answer_least h.0 m q a.msg h.4.2 one))
+      let one : AnswerAtLeast q m a.msg = All-head (λ (a : Envelope). AnswerAtLeast q m a.msg) a []
+      (subst (All (λ (a : Envelope). AnswerAtLeast q m a.msg)) h.4.1 all) in
+      inr (
+        h.0,
+        h.1,
+        (e, m, there, is, h.2),
+        h.3,
+        (
+          record { tag = m.tag; lsid = m.lsid; number = m.number },
+          named,
+          sym h.2.0,
+          answer_least h.0 m q a.msg h.4.2 one,
+        ),
+      )
   grew_by e (msg.Answer m) out is there named h all = inl h
   grew_by e (msg.Commit m) out is there named h all = inl h
   grew_by e (msg.Outcome m) out is there named h all = inl h
@@ -219,8 +270,10 @@ module _ (sent : List Envelope) (served told : List Served) (q : Part) where
   grew_by e (msg.Recover m) out is there named h all = inl h
   grew_by e msg.Nudge out is there named h all = inl h
 
-  pub grew : (w : Happening) (out : List Envelope) → WasSent sent w → Grows q.boot w served told out → All (λ (a : Envelope). EventAtLeast q w a.msg) out → Grew
-  grew (what.Deliver e) out there h all = grew_by e e.msg out refl there (sent_named sent e there) h all
+  pub grew : (w : Happening) (out : List Envelope) → WasSent sent w → Grows q.boot w served told out
+      → All (λ (a : Envelope). EventAtLeast q w a.msg) out → Grew
+  grew (what.Deliver e) out there h all =
+      grew_by e e.msg out refl there (sent_named sent e there) h all
   grew (what.Client conn frame) out there h all = inl h
   grew (what.Gone conn) out there h all = inl h
   grew what.Resend out there h all = inl h
@@ -232,28 +285,42 @@ module _ (P : Named → Type 0) (recs : List Rec) (alone : RecordsAlone P recs) 
   abbrev Now : List Rec → List Entry → Type 0
   Now now entries = RecordsAlone P now × (commits_by now ≡ entries)
 
-  pub quiet_records : (c : Option ℕ) → Now (recs ++ joined (ceiling_append c ++ record_append None)) (commits_by recs)
-  quiet_records None = subst (λ (l : List Rec). Now l (commits_by recs)) (sym (none_appended recs)) (alone, refl)
+  pub quiet_records : (c : Option ℕ)
+      → Now (recs ++ joined (ceiling_append c ++ record_append None)) (commits_by recs)
+  quiet_records None =
+      subst (λ (l : List Rec). Now l (commits_by recs)) (sym (none_appended recs)) (alone, refl)
   quiet_records (Some bound) = (ceiling_alone P recs alone bound, ceiling_more recs bound)
 
-  module _ (tag : Tag) (lsid : Lsid) (number : ℤ) (read_at at : ℕ) (writes : List Write) (named : P (record { tag = tag; lsid = lsid; number = number }))
-      (fits : (s : Session) → session_of (image_of recs).sessions lsid ≡ Some s → s.number ≤ℤ number) (below : Each (λ (e : Entry). e.at < at) (commits_by recs)) where
+  module _ (tag : Tag) (lsid : Lsid) (number : ℤ) (read_at at : ℕ) (writes : List Write)
+      (named : P (record { tag = tag; lsid = lsid; number = number }))
+      (fits : (s : Session) → session_of (image_of recs).sessions lsid ≡ Some s
+      → s.number ≤ℤ number) (below : Each (λ (e : Entry). e.at < at) (commits_by recs)) where
     abbrev r : Rec
     r = rec.Commit tag lsid number read_at at writes
 
     abbrev mine : Entry
     mine = record { tag = tag; read_at = read_at; at = at; writes = writes }
 
-    pub commit_records : (c : Option ℕ) → Now (recs ++ joined (ceiling_append c ++ record_append (Some r))) (commits_by recs ++ mine ∷ [])
-    commit_records None = (commit_alone P recs alone tag lsid number read_at at writes named fits below, commit_more recs tag lsid number read_at at writes below)
+    pub commit_records : (c : Option ℕ) → Now (recs
+        ++ joined (ceiling_append c ++ record_append (Some r))) (commits_by recs ++ mine ∷ [])
+    commit_records None = (
+      commit_alone P recs alone tag lsid number read_at at writes named fits below,
+      commit_more recs tag lsid number read_at at writes below,
+    )
     commit_records (Some bound) =
         let with_bound = recs ++ rec.Ceiling bound ∷ [] in
-        let image : (image_of with_bound).sessions ≡ (image_of recs).sessions = ap (λ (i : Image). i.sessions) (image_append recs (rec.Ceiling bound ∷ [])) in
+        let image : (image_of with_bound).sessions ≡ (image_of recs).sessions =
+        ap (λ (i : Image). i.sessions) (image_append recs (rec.Ceiling bound ∷ [])) in
         let more = ceiling_more recs bound in
-        let still : Each (λ (e : Entry). e.at < at) (commits_by with_bound) = subst (Each (λ (e : Entry). e.at < at)) (sym more) below in
-        subst (λ (l : List Rec). Now l (commits_by recs ++ mine ∷ [])) (sym (both_appended recs bound r)) (
-          commit_alone P with_bound (ceiling_alone P recs alone bound) tag lsid number read_at at writes named (λ s there. fits s (sym (ap (λ (t : Table). session_of t lsid) image) ∙ there)) still,
-          commit_more with_bound tag lsid number read_at at writes still ∙ ap (λ (es : List Entry). es ++ mine ∷ []) more,
+        let still : Each (λ (e : Entry). e.at < at) (commits_by with_bound) =
+        subst (Each (λ (e : Entry). e.at < at)) (sym more) below in
+        subst (λ (l : List Rec). Now l (commits_by recs ++ mine ∷ []))
+        (sym (both_appended recs bound r)) (
+          commit_alone P with_bound (ceiling_alone P recs alone bound)
+              tag lsid number read_at at writes named
+              (λ s there. fits s (sym (ap (λ (t : Table). session_of t lsid) image) ∙ there)) still,
+          commit_more with_bound tag lsid number read_at at writes still
+              ∙ ap (λ (es : List Entry). es ++ mine ∷ []) more,
         )
 
 at_most : (a b c : ℕ) → a ≤ b → b ≤ c → a ≤ c
@@ -266,19 +333,25 @@ far_below : (a b c d : ℕ) → a ≤ b → b ≤ c → c < d → a < d
 far_below a b c d h k m = omega (arith, h, k, m)
 
 -- a session that records hold isn't above the one that a commit's record is of
-fits_case : (P : Named → Type 0) (before p : Part) (lsid : Lsid) (number : ℤ) (t : Session) (o : Option Session) → GoesOn P before p → HasNumber p lsid number → session before lsid ≡ o
+fits_case : (P : Named → Type 0) (before p : Part) (lsid : Lsid) (number : ℤ) (t : Session)
+    (o : Option Session) → GoesOn P before p → HasNumber p lsid number → session before lsid ≡ o
     → IsSomeAnd o (λ (s : Session). (s ≡ t) ⊎ (t.number <ℤ s.number)) → t.number ≤ℤ number
 fits_case P before p lsid number t None go has is h = absurd h
 fits_case P before p lsid number t (Some s) go has is h =
     let next = go.sessions.numbers lsid s is in
     let one : next.0 ≡ has.0 = one_some (session p lsid) next.0 has.0 next.1 has.1 in
-    let above : s.number ≤ℤ number = subst (λ (n : ℤ). s.number ≤ℤ n) (ap (λ (x : Session). x.number) one ∙ has.2) next.2 in
-    ⊎_elim (λ (same : s ≡ t). subst (λ (x : Session). x.number ≤ℤ number) same above) (λ (lower : t.number <ℤ s.number). below_above t.number s.number number lower above) h
+    let above : s.number ≤ℤ number =
+    subst (λ (n : ℤ). s.number ≤ℤ n) (ap (λ (x : Session). x.number) one ∙ has.2) next.2 in
+    ⊎_elim (λ (same : s ≡ t). subst (λ (x : Session). x.number ≤ℤ number) same above)
+    (λ (lower : t.number <ℤ s.number). below_above t.number s.number number lower above) h
 
 -- The step.
 
-module _ (sent : List Envelope) (once : IsOnce (WasNamed sent)) (room : Room) (s : ShardState) (own : s.part.shard ≡ 0) (e : NodeEvent) (recs : List Rec) (served : List Served)
-    (l : Lasts sent recs s served) (g : Runs (WasNamed sent) s (commits_by recs) served) (alone : EventAlone e.what) (comes : WasSent sent e.what) (time : KeepsTime s (core_step room s e)) where
+module _ (sent : List Envelope) (once : IsOnce (WasNamed sent)) (room : Room) (s : ShardState)
+    (own : s.part.shard ≡ 0) (e : NodeEvent) (recs : List Rec) (served : List Served)
+    (l : Lasts sent recs s served) (g : Runs (WasNamed sent) s (commits_by recs) served)
+    (alone : EventAlone e.what) (comes : WasSent sent e.what)
+    (time : KeepsTime s (core_step room s e)) where
   abbrev o : CoreStep
   o = core_step room s e
 
@@ -291,17 +364,20 @@ module _ (sent : List Envelope) (once : IsOnce (WasNamed sent)) (room : Room) (s
   pub does : StepAlone M s e.what o
   does = step_alone M room s e once own g.named g.coord alone (event_named sent e.what comes)
 
-  msg_comes : (m : Msg) → IsAlone m → IfSome (named_in m) M → MsgComes s.part l.opens (commits_by recs) served m
+  msg_comes : (m : Msg) → IsAlone m → IfSome (named_in m) M
+      → MsgComes s.part l.opens (commits_by recs) served m
   msg_comes (msg.Statement m) one named = is_new M once s (commits_by recs) served g m named
   msg_comes (msg.Decide m) one named = absurd one
   msg_comes other one named = tt
 
-  event_comes : (w : Happening) → EventAlone w → NamesBy M w → EventComes s.part l.opens (commits_by recs) served w
+  event_comes : (w : Happening) → EventAlone w → NamesBy M w
+      → EventComes s.part l.opens (commits_by recs) served w
   event_comes (what.Deliver d) one named = msg_comes d.msg one named
   event_comes other one named = tt
 
   pub serves : StepServes l.opens s e.what (commits_by recs) served o
-  serves = step_serves room s e l.opens (commits_by recs) served l.holds (event_comes e.what alone (event_named sent e.what comes))
+  serves = step_serves room s e l.opens (commits_by recs) served l.holds (event_comes e.what alone
+      (event_named sent e.what comes))
 
   abbrev InTold : List Served → Envelope → Type 0
   InTold told d = IsToldBy told d.msg
@@ -313,39 +389,55 @@ module _ (sent : List Envelope) (once : IsOnce (WasNamed sent)) (room : Room) (s
     pub out : All (InTold told) (given_out o.answer)
 
   -- what is said of each served statement, where one more is
-  grown : (Q : Served → Type 0) → Each Q served → ((x : Served) → WasAsked sent x → x.life ≡ o.core.part.boot → IsHeld M o.core.part.sessions x.tag → Q x) → Each Q serves.told
+  grown : (Q : Served → Type 0) → Each Q served → ((x : Served) → WasAsked sent x
+      → x.life ≡ o.core.part.boot → IsHeld M o.core.part.sessions x.tag → Q x) → Each Q serves.told
   grown Q h k =
       ⊎_elim (λ (same : serves.told ≡ served). subst (Each Q) (sym same) h)
-      (λ (more : (x : Served) × (serves.told ≡ x ∷ served) × WasAsked sent x × (x.life ≡ o.core.part.boot) × IsHeld M o.core.part.sessions x.tag). subst (Each Q) (sym more.1) (k more.0 more.2 more.3 more.4, h))
-      (grew sent served serves.told o.core.part e.what (given_out o.answer) comes serves.grows does.served)
+      (λ (more : (x : Served) × (serves.told ≡ x ∷ served) × WasAsked sent x
+      × (x.life ≡ o.core.part.boot) × IsHeld M o.core.part.sessions x.tag).
+      subst (Each Q) (sym more.1) (k more.0 more.2 more.3 more.4, h))
+      (grew sent served serves.told o.core.part e.what (given_out o.answer) comes serves.grows
+      does.served)
 
   told_still : All (InTold serves.told) sent
   told_still =
-      ⊎_elim (λ (same : serves.told ≡ served). subst (λ (told : List Served). All (InTold told) sent) (sym same) l.told)
-      (λ (more : (x : Served) × (serves.told ≡ x ∷ served) × WasAsked sent x × (x.life ≡ o.core.part.boot) × IsHeld M o.core.part.sessions x.tag). subst (λ (told : List Served). All (InTold told) sent) (sym more.1) (all_told_more more.0 served sent l.told))
-      (grew sent served serves.told o.core.part e.what (given_out o.answer) comes serves.grows does.served)
+      ⊎_elim (λ (same : serves.told ≡ served).
+      subst (λ (told : List Served). All (InTold told) sent) (sym same) l.told)
+      (λ (more : (x : Served) × (serves.told ≡ x ∷ served) × WasAsked sent x × (x.life
+      ≡ o.core.part.boot) × IsHeld M o.core.part.sessions x.tag). subst (λ (told : List Served).
+      All (InTold told) sent) (sym more.1) (all_told_more more.0 served sent l.told))
+      (grew sent served serves.told o.core.part e.what (given_out o.answer) comes serves.grows
+      does.served)
 
   held_still : (tag : Tag) → IsHeld M s.part.sessions tag → IsHeld M o.core.part.sessions tag
   held_still tag h = held_on M s.part.sessions o.core.part.sessions does.goes.sessions tag h
 
   below_still : Each (λ (f : Entry). f.at ≤ o.core.clock.last) (commits_by recs)
-  below_still = each_more (λ (f : Entry). f.at ≤ s.clock.last) (λ (f : Entry). f.at ≤ o.core.clock.last) (λ f h. at_most f.at s.clock.last o.core.clock.last h time.rises) (commits_by recs) l.below
+  below_still =
+      each_more (λ (f : Entry). f.at ≤ s.clock.last) (λ (f : Entry). f.at ≤ o.core.clock.last) (λ f
+      h. at_most f.at s.clock.last o.core.clock.last h time.rises) (commits_by recs) l.below
 
   held_entries : Each (λ (f : Entry). IsHeld M o.core.part.sessions f.tag) (commits_by recs)
-  held_entries = each_more (λ (f : Entry). IsHeld M s.part.sessions f.tag) (λ (f : Entry). IsHeld M o.core.part.sessions f.tag) (λ f h. held_still f.tag h) (commits_by recs) g.has_committed
+  held_entries = each_more (λ (f : Entry). IsHeld M s.part.sessions f.tag) (λ (f : Entry). IsHeld M
+      o.core.part.sessions f.tag) (λ f h. held_still f.tag h) (commits_by recs) g.has_committed
 
-  built : (entries : List Entry) → RecordsAlone M now → commits_by now ≡ entries → Holds l.opens o.core.part o.core.clock.last entries serves.told → Each (λ (f : Entry). f.at ≤ o.core.clock.last) entries
+  built : (entries : List Entry) → RecordsAlone M now → commits_by now ≡ entries
+      → Holds l.opens o.core.part o.core.clock.last entries serves.told
+      → Each (λ (f : Entry). f.at ≤ o.core.clock.last) entries
       → Each (λ (f : Entry). IsHeld M o.core.part.sessions f.tag) entries → Behind
   built entries records is holds below held =
       record {
         told = serves.told;
         lasts = record {
           opens = holds.0;
-          holds = subst (λ (es : List Entry). IsServing o.core.part holds.0 o.core.clock.last es serves.told) (sym is) holds.1;
+          holds = subst (λ (es : List Entry). IsServing o.core.part holds.0 o.core.clock.last es
+              serves.told) (sym is) holds.1;
           below = subst (Each (λ (f : Entry). f.at ≤ o.core.clock.last)) (sym is) below;
           clock = time.clock.below;
           backed = step_is_backed room s e recs l.backed;
-          lives = grown (λ (x : Served). x.life ≤ o.core.part.boot) (each_more (λ (x : Served). x.life ≤ s.part.boot) (λ (x : Served). x.life ≤ o.core.part.boot) (λ x h. subst (λ (n : ℕ). x.life ≤ n) (sym does.goes.boot) h) served l.lives)
+          lives = grown (λ (x : Served). x.life ≤ o.core.part.boot) (each_more
+              (λ (x : Served). x.life ≤ s.part.boot) (λ (x : Served). x.life ≤ o.core.part.boot)
+              (λ x h. subst (λ (n : ℕ). x.life ≤ n) (sym does.goes.boot) h) served l.lives)
               (λ x asked life has. same_at x.life o.core.part.boot life);
           told = told_still;
           asked = grown (WasAsked sent) l.asked (λ x asked life has. asked);
@@ -354,40 +446,66 @@ module _ (sent : List Envelope) (once : IsOnce (WasNamed sent)) (room : Room) (s
         runs = record {
           coord = does.coord;
           named = does.goes.sessions.named g.named;
-          has_served = grown (λ (x : Served). x.life ≡ o.core.part.boot → IsHeld M o.core.part.sessions x.tag)
-              (each_more (λ (x : Served). x.life ≡ s.part.boot → IsHeld M s.part.sessions x.tag) (λ (x : Served). x.life ≡ o.core.part.boot → IsHeld M o.core.part.sessions x.tag)
+          has_served = grown (λ (x : Served). x.life ≡ o.core.part.boot
+              → IsHeld M o.core.part.sessions x.tag)
+              (each_more (λ (x : Served). x.life ≡ s.part.boot → IsHeld M s.part.sessions x.tag)
+              (λ (x : Served). x.life ≡ o.core.part.boot → IsHeld M o.core.part.sessions x.tag)
               (λ x h life. held_still x.tag (h (life ∙ does.goes.boot))) served g.has_served)
               (λ x asked life has any. has);
-          has_committed = subst (Each (λ (f : Entry). IsHeld M o.core.part.sessions f.tag)) (sym is) held;
+          has_committed =
+              subst (Each (λ (f : Entry). IsHeld M o.core.part.sessions f.tag)) (sym is) held;
         };
         out = serves.answered;
       }
 
-  stays_behind : (r : Option Rec) → o.rec ≡ r → r ≡ None → Holds l.opens o.core.part o.core.clock.last (commits_by recs) serves.told → Behind
+  stays_behind : (r : Option Rec) → o.rec ≡ r → r ≡ None
+      → Holds l.opens o.core.part o.core.clock.last (commits_by recs) serves.told → Behind
   stays_behind r is none holds =
       let q = quiet_records M recs l.alone o.ceiling in
-      let k : RecordsAlone M now × (commits_by now ≡ commits_by recs) = subst (λ (x : Option Rec). RecordsAlone M (recs ++ joined (ceiling_append o.ceiling ++ record_append x)) × (commits_by (recs ++ joined (ceiling_append o.ceiling ++ record_append x)) ≡ commits_by recs)) (sym (is ∙ none)) q in
+      let k : RecordsAlone M now × (commits_by now ≡ commits_by recs) = subst (λ (x : Option Rec).
+      RecordsAlone M (recs ++ joined (ceiling_append o.ceiling ++ record_append x))
+      × (commits_by (recs ++ joined (ceiling_append o.ceiling ++ record_append x))
+      ≡ commits_by recs)) (sym (is ∙ none)) q in
       built (commits_by recs) k.0 k.1 holds below_still held_entries
 
-  commits_behind : Committed o.core.part serves.last (commits_by recs) serves.told l.opens o.rec → Behind
+  commits_behind : Committed o.core.part serves.last (commits_by recs) serves.told l.opens o.rec
+      → Behind
   commits_behind c =
       let r = rec.Commit c.tag c.lsid c.number c.read_at c.at c.writes in
       let f : Entry = record { tag = c.tag; read_at = c.read_at; at = c.at; writes = c.writes } in
-      let stands : (p : Part) × GoesOn M s.part p × RecHeld M p o.core.part o.core.clock.last r = subst (λ (x : Option Rec). IfSome x (λ (y : Rec). (p : Part) × GoesOn M s.part p × RecHeld M p o.core.part o.core.clock.last y)) c.is does.rec in
+      let stands : (p : Part) × GoesOn M s.part p × RecHeld M p o.core.part o.core.clock.last r =
+      subst (λ (x : Option Rec). IfSome x (λ (y : Rec). (p : Part) × GoesOn M s.part p
+      × RecHeld M p o.core.part o.core.clock.last y)) c.is does.rec in
       let p : Part = stands.0 in
       let held = stands.2 in
-      let fits : (t : Session) → session_of (image_of recs).sessions c.lsid ≡ Some t → t.number ≤ℤ c.number = λ t there.
-      fits_case M s.part p c.lsid c.number t (session s.part c.lsid) stands.1 held.1 refl (one_of_each (λ (lsid : Lsid) (t : Session). HasSession s.part lsid t) (image_of recs).sessions.entries l.backed.durable.sessions c.lsid t there) in
-      let under : Each (λ (f : Entry). f.at < c.at) (commits_by recs) = each_more (λ (f : Entry). f.at ≤ s.clock.last) (λ (f : Entry). f.at < c.at) (λ f h. far_below f.at s.clock.last serves.last c.at h serves.rises c.above) (commits_by recs) l.below in
-      let q = commit_records M recs l.alone c.tag c.lsid c.number c.read_at c.at c.writes held.0 fits under o.ceiling in
-      let k : RecordsAlone M now × (commits_by now ≡ commits_by recs ++ f ∷ []) = subst (λ (x : Option Rec). RecordsAlone M (recs ++ joined (ceiling_append o.ceiling ++ record_append x)) × (commits_by (recs ++ joined (ceiling_append o.ceiling ++ record_append x)) ≡ commits_by recs ++ f ∷ [])) (sym c.is) q in
-      let later : IsServing o.core.part c.holds.0 o.core.clock.last (commits_by recs ++ f ∷ []) serves.told = clock_holds o.core.part c.holds.0 c.at (commits_by recs ++ f ∷ []) serves.told c.holds.1 o.core.clock.last held.3 in
+      let fits : (t : Session) → session_of (image_of recs).sessions c.lsid ≡ Some t
+      → t.number ≤ℤ c.number = λ t there.
+      fits_case M s.part p c.lsid c.number t (session s.part c.lsid) stands.1 held.1
+      refl (one_of_each (λ (lsid : Lsid) (t : Session). HasSession s.part lsid t)
+      (image_of recs).sessions.entries l.backed.durable.sessions c.lsid t there) in
+      let under : Each (λ (f : Entry). f.at < c.at) (commits_by recs) = each_more (λ (f : Entry).
+      f.at ≤ s.clock.last) (λ (f : Entry). f.at < c.at) (λ f h. far_below f.at s.clock.last
+      serves.last c.at h serves.rises c.above) (commits_by recs) l.below in
+      let q = commit_records M recs l.alone c.tag c.lsid c.number c.read_at c.at c.writes held.0
+      fits under o.ceiling in
+      let k : RecordsAlone M now × (commits_by now ≡ commits_by recs ++ f ∷ []) = subst (λ (x :
+      Option Rec). RecordsAlone M (recs ++ joined (ceiling_append o.ceiling ++ record_append x))
+      × (commits_by (recs ++ joined (ceiling_append o.ceiling ++ record_append x))
+      ≡ commits_by recs ++ f ∷ [])) (sym c.is) q in
+      let later : IsServing o.core.part c.holds.0 o.core.clock.last (commits_by recs ++ f
+      ∷ []) serves.told = clock_holds o.core.part c.holds.0 c.at (commits_by recs ++ f
+      ∷ []) serves.told c.holds.1 o.core.clock.last held.3 in
       built (commits_by recs ++ f ∷ []) k.0 k.1 (c.holds.0, later, c.holds.2)
       (each_last (λ (f : Entry). f.at ≤ o.core.clock.last) (commits_by recs) f below_still held.3)
-      (each_last (λ (f : Entry). IsHeld M o.core.part.sessions f.tag) (commits_by recs) f held_entries (record { tag = c.tag; lsid = c.lsid; number = c.number }, held.0, refl, held.2))
+      (each_last (λ (f : Entry). IsHeld M o.core.part.sessions f.tag)
+      (commits_by recs) f held_entries
+      (record { tag = c.tag; lsid = c.lsid; number = c.number }, held.0, refl, held.2))
 
   pub behind : Behind
   behind =
-      ⊎_elim (λ (h : (o.rec ≡ None) × Holds l.opens o.core.part o.core.clock.last (commits_by recs) serves.told). stays_behind o.rec refl h.0 h.1)
-      (λ (c : Committed o.core.part serves.last (commits_by recs) serves.told l.opens o.rec). commits_behind c)
-      (leaves M s.part o.core.part l.opens serves.last o.core.clock.last (commits_by recs) serves.told e.what o.rec alone does.rec serves.left)
+      ⊎_elim (λ (h : (o.rec ≡ None) × Holds l.opens o.core.part o.core.clock.last (commits_by recs)
+      serves.told). stays_behind o.rec refl h.0 h.1)
+      (λ (c : Committed o.core.part serves.last (commits_by recs) serves.told l.opens o.rec).
+      commits_behind c)
+      (leaves M s.part o.core.part l.opens serves.last o.core.clock.last (commits_by recs)
+      serves.told e.what o.rec alone does.rec serves.left)

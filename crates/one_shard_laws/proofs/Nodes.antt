@@ -1,50 +1,53 @@
 -- What holds of one shard's node holds behind what it takes, and where it starts again.
-use Rattle.std.proofs.Common.{◌≡◌, ◌⊎◌, inl, inr, ⊎_elim, ◌≤◌, ◌+◌, ◌++◌, ℕ, List, [], ◌∷◌, filter_map, All, Contains, Option, Some, None, IfSome, Err, refl, ap, subst, ◌∙◌, sym, arith, unwrap_or}
-use Rattle.std.proofs.lemmas.List.{append_assoc, append-nil}
-use Rattle.std.proofs.lemmas.List.Elements.{All-nil, All-append, All-weaker, Contains-append_left, filter_map-append}
-use Rattle.txn_types.specs.declared.cause.Cause.{Cause}
-use Rattle.txn_types.specs.declared.cause.Cause.TheVariants as cause
+use Rattle.std.proofs.Common.{◌≡◌, ◌⊎◌, inl, inr, ⊎_elim, ◌≤◌, ◌+◌, ◌++◌, ℕ, List, [], ◌∷◌}
+use Rattle.std.proofs.Common.{filter_map, All, Contains, Option, Some, None, refl, ap}
+use Rattle.std.proofs.Common.{subst, ◌∙◌, sym, arith, unwrap_or}
+use Rattle.std.proofs.lemmas.List.{append-nil}
+use Rattle.std.proofs.lemmas.List.Elements.{All-append, All-weaker, Contains-append_left}
+use Rattle.std.proofs.lemmas.List.Elements.{filter_map-append}
 use Rattle.txn_types.specs.declared.event.Happening.{Happening}
 use Rattle.txn_types.specs.declared.event.Happening.TheVariants as what
 use Rattle.txn_types.specs.declared.event.NodeAnswer.{NodeAnswer}
 use Rattle.txn_types.specs.declared.event.NodeAnswer.TheVariants as answer
 use Rattle.txn_types.specs.declared.event.NodeEvent.{NodeEvent}
-use Rattle.txn_types.specs.declared.message.Answer.{Answer}
 use Rattle.txn_types.specs.declared.message.Envelope.{Envelope}
 use Rattle.txn_types.specs.declared.message.Msg.{Msg}
 use Rattle.txn_types.specs.declared.message.Msg.TheVariants as msg
-use Rattle.txn_types.specs.declared.message.Statement.{Statement}
-use Rattle.txn_types.specs.declared.names.Tag.{Tag}
 use Rattle.txn_types.specs.declared.node.NodeId.{NodeId}
-use Rattle.txn_types.specs.declared.operation.OpReply.{OpReply}
 use Rattle.txn_semantics.specs.declared.commits.Entry.{Entry}
 use Rattle.session_table.specs.Sessions.{Table}
 use Rattle.journal_rec.specs.declared.record.Rec.{Rec}
 use Rattle.journal_rec.specs.declared.record.Rec.TheVariants as rec
-use Rattle.shard_image.specs.Image.{Image, image_of}
+use Rattle.shard_image.specs.Image.{image_of}
 use Rattle.shard_image.specs.Sound.{AreWritten}
 use Rattle.part_laws.specs.Each.{Each}
 use Rattle.part_laws.specs.Sound.{Served}
 use Rattle.part_laws.specs.Parts.{IsServing}
 use Rattle.part_laws.specs.Start.{none_open, prepared_ones}
 use Rattle.shard_core.specs.State.{ShardState}
-use Rattle.shard_core.specs.Core.{Room, Ample, Scarce, Short, CoreStep, core_step, step_if, stays, stopped_step, answer_stopped, says_stopped}
+use Rattle.shard_core.specs.Core.{Room, Ample, Scarce, Short, CoreStep, core_step, step_if, stays}
+use Rattle.shard_core.specs.Core.{stopped_step, answer_stopped, says_stopped}
 use Rattle.shard_core.specs.Laws.{KeepsTime}
-use Rattle.shard_core.specs.NodeStep.{NodeState, Appended, Failed, ShardTakes, ceiling_append, record_append, appends_of, joined, node_of, boot_behind, started}
-use Rattle.durable_laws.specs.Backed.{IsBacked, IsDurableNode, IsLeft, at_ceiling, kept_state, lost_state}
+use Rattle.shard_core.specs.NodeStep.{NodeState, Appended, Failed, ShardTakes, ceiling_append}
+use Rattle.shard_core.specs.NodeStep.{record_append, appends_of, joined, node_of, boot_behind}
+use Rattle.shard_core.specs.NodeStep.{started}
+use Rattle.durable_laws.specs.Backed.{IsBacked, IsDurableNode, IsLeft, at_ceiling, kept_state}
+use Rattle.durable_laws.specs.Backed.{lost_state}
 use Rattle.durable_laws.proofs.Beginning.{start_backed, start_finds}
 use Rattle.durable_laws.proofs.Nodes.{written_front}
 use Rattle.durable_laws.proofs.Stepping.{fault_is_backed}
 use Rattle.cluster_core.specs.Naming.{Named, named_in, given_out}
 use Rattle.world_laws.proofs.Clocks.{no_appends, none_parts, started_is}
-use Rattle.serving_laws.specs.Telling.{RefusedThere, ToldThere, IsToldBy}
+use Rattle.serving_laws.specs.Telling.{IsToldBy}
 use Rattle.serving_laws.proofs.Starting.{start_serves, first_serves}
 use Rattle.one_shard_laws.specs.Sessions.{SessionsNamed, IsHeld, IsOnce}
 use Rattle.one_shard_laws.specs.Alone.{IsAlone, EventAlone}
-use Rattle.one_shard_laws.specs.Lasting.{WasNamed, WasAsked, commits_by, RecordsAlone, Lasts, Runs, HasLast, HasRun, IsRight}
+use Rattle.one_shard_laws.specs.Lasting.{WasNamed, WasAsked, commits_by, RecordsAlone, Lasts, Runs}
+use Rattle.one_shard_laws.specs.Lasting.{HasLast, HasRun, IsRight}
 use Rattle.one_shard_laws.proofs.Ruling.{nothing, one}
 use Rattle.one_shard_laws.proofs.Listing.{each_more, ceiling_more, boot_more}
-use Rattle.one_shard_laws.proofs.Recording.{held_named, alone_named, no_commits, none_alone, ceiling_alone, boot_alone}
+use Rattle.one_shard_laws.proofs.Recording.{held_named, alone_named, no_commits, none_alone}
+use Rattle.one_shard_laws.proofs.Recording.{ceiling_alone, boot_alone}
 use Rattle.one_shard_laws.proofs.Behind.{WasSent, both_appended, Behind, behind, does}
 
 -- More is sent.
@@ -53,12 +56,16 @@ abbrev names : List Envelope → List Named
 names sent = filter_map (λ e. named_in e.msg) sent
 
 named_more : (sent out : List Envelope) (x : Named) → WasNamed sent x → WasNamed (sent ++ out) x
-named_more sent out x h = subst (λ (ns : List Named). Contains ns x) (sym (filter_map-append (λ (e : Envelope). named_in e.msg) sent out)) (Contains-append_left (names sent) (names out) x h)
+named_more sent out x h = subst (λ (ns : List Named).
+    Contains ns x) (sym (filter_map-append (λ (e : Envelope). named_in e.msg) sent out))
+    (Contains-append_left (names sent) (names out) x h)
 
 asked_more : (sent out : List Envelope) (x : Served) → WasAsked sent x → WasAsked (sent ++ out) x
 asked_more sent out x h = (h.0, h.1, Contains-append_left sent out h.0 h.2, h.3, h.4)
 
-pub lasts_more : (sent out : List Envelope) (recs : List Rec) (s : ShardState) (served : List Served) → Lasts sent recs s served → All (λ (e : Envelope). IsToldBy served e.msg) out → Lasts (sent ++ out) recs s served
+pub lasts_more : (sent out : List Envelope) (recs : List Rec)
+    (s : ShardState) (served : List Served) → Lasts sent recs s served
+    → All (λ (e : Envelope). IsToldBy served e.msg) out → Lasts (sent ++ out) recs s served
 lasts_more sent out recs s served l told =
     record {
       opens = l.opens;
@@ -68,43 +75,64 @@ lasts_more sent out recs s served l told =
       backed = l.backed;
       lives = l.lives;
       told = All-append (λ (e : Envelope). IsToldBy served e.msg) sent out l.told told;
-      asked = each_more (WasAsked sent) (WasAsked (sent ++ out)) (asked_more sent out) served l.asked;
-      alone = alone_named (WasNamed sent) (WasNamed (sent ++ out)) (named_more sent out) recs l.alone;
+      asked =
+          each_more (WasAsked sent) (WasAsked (sent ++ out)) (asked_more sent out) served l.asked;
+      alone =
+          alone_named (WasNamed sent) (WasNamed (sent ++ out)) (named_more sent out) recs l.alone;
     }
 
-runs_more : (P Q : Named → Type 0) → ((x : Named) → P x → Q x) → (s : ShardState) (entries : List Entry) (served : List Served) → Runs P s entries served → Runs Q s entries served
+runs_more : (P Q : Named → Type 0) → ((x : Named) → P x → Q x)
+    → (s : ShardState) (entries : List Entry) (served : List Served) → Runs P s entries served
+    → Runs Q s entries served
 runs_more P Q f s entries served g =
     record {
       coord = g.coord;
       named = λ lsid t there. f _ (g.named lsid t there);
-      has_served = each_more (λ (x : Served). x.life ≡ s.part.boot → IsHeld P s.part.sessions x.tag) (λ (x : Served). x.life ≡ s.part.boot → IsHeld Q s.part.sessions x.tag) (λ x h life. held_named P Q f s.part.sessions x.tag (h life)) served g.has_served;
-      has_committed = each_more (λ (e : Entry). IsHeld P s.part.sessions e.tag) (λ (e : Entry). IsHeld Q s.part.sessions e.tag) (λ e h. held_named P Q f s.part.sessions e.tag h) entries g.has_committed;
+      has_served = each_more (λ (x : Served). x.life ≡ s.part.boot → IsHeld P s.part.sessions x.tag)
+          (λ (x : Served). x.life ≡ s.part.boot → IsHeld Q s.part.sessions x.tag) (λ x h life.
+          held_named P Q f s.part.sessions x.tag (h life)) served g.has_served;
+      has_committed = each_more (λ (e : Entry). IsHeld P s.part.sessions e.tag) (λ (e : Entry).
+          IsHeld Q s.part.sessions e.tag) (λ e h. held_named P Q f s.part.sessions e.tag h) entries
+          g.has_committed;
     }
 
 -- what was sent tells of what was served, whatever that is
 abbrev pub AllTold : List Envelope → Type 0
 AllTold out = (served : List Served) → All (λ (e : Envelope). IsToldBy served e.msg) out
 
-last_more : (sent out : List Envelope) (recs : List Rec) → AllTold out → HasLast sent recs → HasLast (sent ++ out) recs
+last_more : (sent out : List Envelope) (recs : List Rec) → AllTold out → HasLast sent recs
+    → HasLast (sent ++ out) recs
 last_more sent out recs told h = (h.0, h.1, lasts_more sent out recs h.0 h.1 h.2 (told h.1))
 
-pub right_more : (sent out : List Envelope) (core : ShardState) (recs hand : List Rec) → AllTold out → IsRight sent core recs hand → IsRight (sent ++ out) core recs hand
+pub right_more : (sent out : List Envelope) (core : ShardState) (recs hand : List Rec) → AllTold out
+    → IsRight sent core recs hand → IsRight (sent ++ out) core recs hand
 right_more sent out core recs hand told h =
     record {
       kept = last_more sent out recs told h.kept;
       with_hand = last_more sent out (recs ++ hand) told h.with_hand;
       runs = λ running.
-          let r = h.runs running in
-          (r.0, lasts_more sent out recs core r.0 r.1 (told r.0), runs_more (WasNamed sent) (WasNamed (sent ++ out)) (named_more sent out) core (commits_by recs) r.0 r.2, r.3);
+          let r = h.runs running in (
+            r.0,
+            lasts_more sent out recs core r.0 r.1 (told r.0),
+            runs_more (WasNamed sent) (WasNamed (sent ++ out)) (named_more sent out) core
+                (commits_by recs) r.0 r.2,
+            r.3,
+          );
     }
 
 -- of a node whose core, records and hand are these
-of_node : (sent : List Envelope) (core : ShardState) (recs hand : List Rec) (n : NodeState) → n.core ≡ core → n.records ≡ recs → n.hand ≡ hand → IsRight sent core recs hand → IsRight sent n.core n.records n.hand
+of_node : (sent : List Envelope) (core : ShardState) (recs hand : List Rec) (n : NodeState)
+    → n.core ≡ core → n.records ≡ recs → n.hand ≡ hand → IsRight sent core recs hand
+    → IsRight sent n.core n.records n.hand
 of_node sent core recs hand n a b c h =
-    subst (λ (x : ShardState). IsRight sent x n.records n.hand) (sym a) (subst (λ (x : List Rec). IsRight sent core x n.hand) (sym b) (subst (λ (x : List Rec). IsRight sent core recs x) (sym c) h))
+    subst (λ (x : ShardState). IsRight sent x n.records n.hand) (sym a)
+    (subst (λ (x : List Rec). IsRight sent core x n.hand) (sym b)
+    (subst (λ (x : List Rec). IsRight sent core recs x) (sym c) h))
 
-same_sent : (sent out : List Envelope) (core : ShardState) (recs hand : List Rec) → out ≡ [] → IsRight sent core recs hand → IsRight (sent ++ out) core recs hand
-same_sent sent out core recs hand none h = subst (λ (x : List Envelope). IsRight x core recs hand) (sym (ap (λ (x : List Envelope). sent ++ x) none ∙ append-nil sent)) h
+same_sent : (sent out : List Envelope) (core : ShardState) (recs hand : List Rec) → out ≡ []
+    → IsRight sent core recs hand → IsRight (sent ++ out) core recs hand
+same_sent sent out core recs hand none h = subst (λ (x : List Envelope).
+    IsRight x core recs hand) (sym (ap (λ (x : List Envelope). sent ++ x) none ∙ append-nil sent)) h
 
 -- A stopped shard: it says no more than that it is.
 
@@ -117,11 +145,14 @@ record StaysStopped (s : ShardState) (o : CoreStep) : Type 0 where
   rec : o.rec ≡ None
   out : All IsFault (given_out o.answer)
 
-silent_stays : (s : ShardState) (a : NodeAnswer) → All IsFault (given_out a) → StaysStopped s (stays s a)
+silent_stays : (s : ShardState) (a : NodeAnswer) → All IsFault (given_out a)
+    → StaysStopped s (stays s a)
 silent_stays s a h = record { core = refl; ceiling = refl; rec = refl; out = h }
 
-says_case : (s : ShardState) → s.part.shard ≡ 0 → (faults : ℕ) (from : NodeId) (m : Msg) → StaysStopped s (stays s (says_stopped s faults from m))
-says_case s own faults from (msg.Statement m) = silent_stays s (says_stopped s faults from (msg.Statement m)) (one IsFault _ (own, λ served. tt))
+says_case : (s : ShardState) → s.part.shard ≡ 0 → (faults : ℕ) (from : NodeId) (m : Msg)
+    → StaysStopped s (stays s (says_stopped s faults from m))
+says_case s own faults from (msg.Statement m) = silent_stays s (says_stopped s faults from
+    (msg.Statement m)) (one IsFault _ (own, λ served. tt))
 says_case s own faults from (msg.Answer m) = silent_stays s answer.Stopped (nothing IsFault)
 says_case s own faults from (msg.Commit m) = silent_stays s answer.Stopped (nothing IsFault)
 says_case s own faults from (msg.Outcome m) = silent_stays s answer.Stopped (nothing IsFault)
@@ -134,21 +165,25 @@ says_case s own faults from (msg.Acked m) = silent_stays s answer.Stopped (nothi
 says_case s own faults from (msg.Recover m) = silent_stays s answer.Stopped (nothing IsFault)
 says_case s own faults from msg.Nudge = silent_stays s answer.Stopped (nothing IsFault)
 
-stays_case : (s : ShardState) → s.part.shard ≡ 0 → (faults : ℕ) (w : Happening) → StaysStopped s (stays s (answer_stopped s faults w))
+stays_case : (s : ShardState) → s.part.shard ≡ 0 → (faults : ℕ) (w : Happening)
+    → StaysStopped s (stays s (answer_stopped s faults w))
 stays_case s own faults (what.Deliver e) = says_case s own faults e.from e.msg
 stays_case s own faults (what.Client conn frame) = silent_stays s answer.Stopped (nothing IsFault)
 stays_case s own faults (what.Gone conn) = silent_stays s answer.Stopped (nothing IsFault)
 stays_case s own faults what.Resend = silent_stays s answer.Stopped (nothing IsFault)
 stays_case s own faults what.Moment = silent_stays s answer.Stopped (nothing IsFault)
 
-room_case : (room : Room) (s : ShardState) → s.part.shard ≡ 0 → (faults : ℕ) (e : NodeEvent) → StaysStopped s (stopped_step room s faults e)
+room_case : (room : Room) (s : ShardState) → s.part.shard ≡ 0 → (faults : ℕ) (e : NodeEvent)
+    → StaysStopped s (stopped_step room s faults e)
 room_case Ample s own faults e = stays_case s own faults e.what
 room_case Scarce s own faults e = silent_stays s answer.Memory (nothing IsFault)
 room_case Short s own faults e = silent_stays s answer.Memory (nothing IsFault)
 
-stopped_stays : (room : Room) (s : ShardState) → s.part.shard ≡ 0 → (e : NodeEvent) (faults : ℕ) → s.stopped ≡ Some faults → StaysStopped s (core_step room s e)
+stopped_stays : (room : Room) (s : ShardState) → s.part.shard ≡ 0 → (e : NodeEvent) (faults : ℕ)
+    → s.stopped ≡ Some faults → StaysStopped s (core_step room s e)
 unfolding core_step
-stopped_stays room s own e faults is = subst (λ (x : Option ℕ). StaysStopped s (step_if room s e x)) (sym is) (room_case room s own faults e)
+stopped_stays room s own e faults is = subst (λ (x : Option ℕ).
+    StaysStopped s (step_if room s e x)) (sym is) (room_case room s own faults e)
 
 -- Which append failed.
 
@@ -156,49 +191,71 @@ abbrev IsOne : List (List Rec) → List (List Rec) → List Rec → List (List R
 IsOne appends kept lost rest = (kept ≡ []) × (lost ≡ joined appends) × (rest ≡ [])
 
 abbrev IsFirst : ℕ → Rec → List (List Rec) → List Rec → List (List Rec) → Type 0
-IsFirst bound r kept lost rest = (kept ≡ []) × (lost ≡ rec.Ceiling bound ∷ []) × (rest ≡ (r ∷ []) ∷ [])
+IsFirst bound r kept lost rest = (kept ≡ []) × (lost ≡ rec.Ceiling bound ∷ [])
+    × (rest ≡ (r ∷ []) ∷ [])
 
 abbrev IsSecond : ℕ → Rec → List (List Rec) → List Rec → List (List Rec) → Type 0
-IsSecond bound r kept lost rest = (kept ≡ (rec.Ceiling bound ∷ []) ∷ []) × (lost ≡ r ∷ []) × (rest ≡ [])
+IsSecond bound r kept lost rest = (kept ≡ (rec.Ceiling bound ∷ []) ∷ []) × (lost ≡ r ∷ [])
+    × (rest ≡ [])
 
 abbrev Shape : Option ℕ → Option Rec → List (List Rec) → List Rec → List (List Rec) → Type 0
 Shape c r kept lost rest =
     IsOne (ceiling_append c ++ record_append r) kept lost rest
-    ⊎ ((bound : ℕ) × (x : Rec) × (c ≡ Some bound) × (r ≡ Some x) × (IsFirst bound x kept lost rest ⊎ IsSecond bound x kept lost rest))
+    ⊎ ((bound : ℕ) × (x : Rec) × (c ≡ Some bound) × (r ≡ Some x)
+    × (IsFirst bound x kept lost rest ⊎ IsSecond bound x kept lost rest))
 
 head_is : {A : Type 0} (a b : A) (xs ys : List A) → a ∷ xs ≡ b ∷ ys → (b ≡ a) × (ys ≡ xs)
 head_is a b xs ys h = (cc, cc)
 
-one_shape : (x : List Rec) (kept : List (List Rec)) (lost : List Rec) (rest : List (List Rec)) → x ∷ [] ≡ kept ++ lost ∷ rest → (kept ≡ []) × (lost ≡ x) × (rest ≡ [])
+one_shape : (x : List Rec) (kept : List (List Rec)) (lost : List Rec) (rest : List (List Rec))
+    → x ∷ [] ≡ kept ++ lost ∷ rest → (kept ≡ []) × (lost ≡ x) × (rest ≡ [])
 one_shape x [] lost rest h = let k = head_is x lost [] rest h in (refl, k.0, k.1)
-one_shape x (y ∷ kept) lost rest h = absurd (none_parts kept lost rest (sym (head_is x y [] (kept ++ lost ∷ rest) h).1))
+one_shape x (y ∷ kept) lost rest h =
+    absurd (none_parts kept lost rest (sym (head_is x y [] (kept ++ lost ∷ rest) h).1))
 
-two_shape : (bound : ℕ) (r : Rec) (kept : List (List Rec)) (lost : List Rec) (rest : List (List Rec)) → (rec.Ceiling bound ∷ []) ∷ (r ∷ []) ∷ [] ≡ kept ++ lost ∷ rest → IsFirst bound r kept lost rest ⊎ IsSecond bound r kept lost rest
-two_shape bound r [] lost rest h = let k = head_is (rec.Ceiling bound ∷ []) lost ((r ∷ []) ∷ []) rest h in inl (refl, k.0, k.1)
+two_shape : (bound : ℕ) (r : Rec) (kept : List (List Rec)) (lost : List Rec)
+    (rest : List (List Rec)) → (rec.Ceiling bound ∷ []) ∷ (r ∷ []) ∷ [] ≡ kept ++ lost ∷ rest
+    → IsFirst bound r kept lost rest ⊎ IsSecond bound r kept lost rest
+two_shape bound r [] lost rest h = let k =
+    head_is (rec.Ceiling bound ∷ []) lost ((r ∷ []) ∷ []) rest h in inl (refl, k.0, k.1)
 two_shape bound r (y ∷ kept) lost rest h =
     let k = head_is (rec.Ceiling bound ∷ []) y ((r ∷ []) ∷ []) (kept ++ lost ∷ rest) h in
     let more = one_shape (r ∷ []) kept lost rest (sym k.1) in
-    inr (ap (λ (z : List Rec). z ∷ kept) k.0 ∙ ap (λ (zs : List (List Rec)). (rec.Ceiling bound ∷ []) ∷ zs) more.0, more.1, more.2)
+    inr (
+      ap (λ (z : List Rec). z ∷ kept) k.0
+          ∙ ap (λ (zs : List (List Rec)). (rec.Ceiling bound ∷ []) ∷ zs) more.0,
+      more.1,
+      more.2,
+    )
 
-shape : (c : Option ℕ) (r : Option Rec) (kept : List (List Rec)) (lost : List Rec) (rest : List (List Rec)) → ceiling_append c ++ record_append r ≡ kept ++ lost ∷ rest → Shape c r kept lost rest
+shape : (c : Option ℕ) (r : Option Rec) (kept : List (List Rec)) (lost : List Rec)
+    (rest : List (List Rec)) → ceiling_append c ++ record_append r ≡ kept ++ lost ∷ rest
+    → Shape c r kept lost rest
 shape None None kept lost rest h = absurd (none_parts kept lost rest h)
 shape None (Some r) kept lost rest h = inl (one_shape (r ∷ []) kept lost rest h)
 shape (Some bound) None kept lost rest h = inl (one_shape (rec.Ceiling bound ∷ []) kept lost rest h)
-shape (Some bound) (Some r) kept lost rest h = inr (bound, r, refl, refl, two_shape bound r kept lost rest h)
+shape (Some bound) (Some r) kept lost rest h =
+    inr (bound, r, refl, refl, two_shape bound r kept lost rest h)
 
 -- A state whose ceiling alone was raised.
 
-raised_above : (last now ceiling raised : ℕ) → last ≤ now → now ≤ ceiling → ceiling ≡ raised → last ≤ raised
+raised_above : (last now ceiling raised : ℕ) → last ≤ now → now ≤ ceiling → ceiling ≡ raised
+    → last ≤ raised
 raised_above last now ceiling raised h k is = omega (arith, h, k, is)
 
-ceiling_lasts : (sent : List Envelope) (recs : List Rec) (s : ShardState) (served : List Served) (o : CoreStep) (bound : ℕ) → Lasts sent recs s served → KeepsTime s o → IsBacked (recs ++ rec.Ceiling bound ∷ []) (at_ceiling s o)
+ceiling_lasts : (sent : List Envelope) (recs : List Rec) (s : ShardState) (served : List Served)
+    (o : CoreStep) (bound : ℕ) → Lasts sent recs s served → KeepsTime s o
+    → IsBacked (recs ++ rec.Ceiling bound ∷ []) (at_ceiling s o)
     → Lasts sent (recs ++ rec.Ceiling bound ∷ []) (at_ceiling s o) served
 ceiling_lasts sent recs s served o bound l time backed =
     record {
       opens = l.opens;
-      holds = subst (λ (es : List Entry). IsServing s.part l.opens s.clock.last es served) (sym (ceiling_more recs bound)) l.holds;
-      below = subst (Each (λ (e : Entry). e.at ≤ s.clock.last)) (sym (ceiling_more recs bound)) l.below;
-      clock = raised_above s.clock.last o.core.clock.last o.core.clock.ceiling (unwrap_or o.ceiling s.clock.ceiling) time.rises time.clock.below time.ceiling;
+      holds = subst (λ (es : List Entry). IsServing s.part l.opens s.clock.last es served)
+          (sym (ceiling_more recs bound)) l.holds;
+      below =
+          subst (Each (λ (e : Entry). e.at ≤ s.clock.last)) (sym (ceiling_more recs bound)) l.below;
+      clock = raised_above s.clock.last o.core.clock.last o.core.clock.ceiling (unwrap_or o.ceiling
+          s.clock.ceiling) time.rises time.clock.below time.ceiling;
       backed = backed;
       lives = l.lives;
       told = l.told;
@@ -208,13 +265,16 @@ ceiling_lasts sent recs s served o bound l time backed =
 
 -- What a node takes.
 
-module _ (sent : List Envelope) (once : IsOnce (WasNamed sent)) (old : NodeState) (own : old.core.part.shard ≡ 0) (e : NodeEvent) (a : NodeAnswer) (new : NodeState) (room : Room) (alone : EventAlone e.what) (comes : WasSent sent e.what)
+module _ (sent : List Envelope) (once : IsOnce (WasNamed sent)) (old : NodeState)
+    (own : old.core.part.shard ≡ 0) (e : NodeEvent) (a : NodeAnswer) (new : NodeState) (room : Room)
+    (alone : EventAlone e.what) (comes : WasSent sent e.what)
     (right : IsRight sent old.core old.records old.hand) where
   abbrev o : CoreStep
   o = core_step room old.core e
 
   abbrev Done : Type 0
-  Done = IsRight (sent ++ given_out a) new.core new.records new.hand × All (λ (x : Envelope). IsAlone x.msg) (given_out a)
+  Done = IsRight (sent ++ given_out a) new.core new.records new.hand
+      × All (λ (x : Envelope). IsAlone x.msg) (given_out a)
 
   none_given : (P : Envelope → Type 0) → a ≡ answer.DiskFault → All P (given_out a)
   none_given P is = subst (λ (x : NodeAnswer). All P (given_out x)) (sym is) (nothing P)
@@ -236,15 +296,30 @@ module _ (sent : List Envelope) (once : IsOnce (WasNamed sent)) (old : NodeState
     appended : Appended old o a new → Done
     appended d =
         let out = given_out o.answer in
-        let last : Lasts (sent ++ out) now o.core next.told = lasts_more sent out now o.core next.told next.lasts next.out in
+        let last : Lasts (sent ++ out) now o.core next.told =
+        lasts_more sent out now o.core next.told next.lasts next.out in
         let stands : IsRight (sent ++ out) o.core now [] = record {
           kept = (o.core, next.told, last);
-          with_hand = (o.core, next.told, subst (λ (r : List Rec). Lasts (sent ++ out) r o.core next.told) (sym (append-nil now)) last);
-          runs = λ still. (next.told, last, runs_more (WasNamed sent) (WasNamed (sent ++ out)) (named_more sent out) o.core (commits_by now) next.told next.runs, refl);
+          with_hand = (
+            o.core,
+            next.told,
+            subst (λ (r : List Rec). Lasts (sent ++ out) r o.core next.told)
+                (sym (append-nil now)) last,
+          );
+          runs = λ still. (
+            next.told,
+            last,
+            runs_more (WasNamed sent) (WasNamed (sent ++ out)) (named_more sent out) o.core
+                (commits_by now) next.told next.runs,
+            refl,
+          );
         } in
         let given : given_out a ≡ out = ap given_out d.told in (
-          subst (λ (x : List Envelope). IsRight (sent ++ x) new.core new.records new.hand) (sym given) (of_node (sent ++ out) o.core now [] new d.core d.records (d.hand ∙ run.3) stands),
-          subst (All (λ (x : Envelope). IsAlone x.msg)) (sym given) (does sent once room old.core own e old.records served run.1 run.2 alone comes time).out,
+          subst (λ (x : List Envelope). IsRight (sent ++ x) new.core new.records new.hand)
+              (sym given)
+              (of_node (sent ++ out) o.core now [] new d.core d.records (d.hand ∙ run.3) stands),
+          subst (All (λ (x : Envelope). IsAlone x.msg)) (sym given) (does sent once room old.core
+              own e old.records served run.1 run.2 alone comes time).out,
         )
 
     -- an append failed
@@ -252,57 +327,85 @@ module _ (sent : List Envelope) (once : IsOnce (WasNamed sent)) (old : NodeState
       abbrev kept : List Rec
       kept = old.records ++ joined f.kept
 
-      fault : IsBacked new.records (kept_state old.core o f.kept) × IsBacked (new.records ++ new.hand) (lost_state old.core o f.rest)
+      fault : IsBacked new.records (kept_state old.core o f.kept)
+          × IsBacked (new.records ++ new.hand) (lost_state old.core o f.rest)
       fault = fault_is_backed old e room a new f backed
 
       behind_all : (r : List Rec) → r ≡ now → HasLast sent r
-      behind_all r is = (o.core, next.told, subst (λ (x : List Rec). Lasts sent x o.core next.told) (sym is) next.lasts)
+      behind_all r is = (
+        o.core,
+        next.told,
+        subst (λ (x : List Rec). Lasts sent x o.core next.told) (sym is) next.lasts,
+      )
 
       as_before : (r : List Rec) → r ≡ old.records → HasLast sent r
-      as_before r is = (old.core, served, subst (λ (x : List Rec). Lasts sent x old.core served) (sym is) run.1)
+      as_before r is =
+          (old.core, served, subst (λ (x : List Rec). Lasts sent x old.core served) (sym is) run.1)
 
-      as_raised : (r : List Rec) (bound : ℕ) → r ≡ old.records ++ rec.Ceiling bound ∷ [] → IsBacked r (at_ceiling old.core o) → HasLast sent r
+      as_raised : (r : List Rec) (bound : ℕ) → r ≡ old.records ++ rec.Ceiling bound ∷ []
+          → IsBacked r (at_ceiling old.core o) → HasLast sent r
       as_raised r bound is b = (
         at_ceiling old.core o,
         served,
         subst (λ (x : List Rec). Lasts sent x (at_ceiling old.core o) served) (sym is)
-            (ceiling_lasts sent old.records old.core served o bound run.1 time (subst (λ (x : List Rec). IsBacked x (at_ceiling old.core o)) is b)),
+            (ceiling_lasts sent old.records old.core served o bound run.1 time
+            (subst (λ (x : List Rec). IsBacked x (at_ceiling old.core o)) is b)),
       )
 
       both_hands : HasLast sent kept × HasLast sent (kept ++ f.lost)
       both_hands = by_shape (shape o.ceiling o.rec f.kept f.lost f.rest f.parted)
         where
           none_kept : f.kept ≡ [] → kept ≡ old.records
-          none_kept none = ap (λ (ks : List (List Rec)). old.records ++ joined ks) none ∙ append-nil old.records
+          none_kept none = ap (λ (ks : List (List Rec)). old.records ++ joined ks) none
+              ∙ append-nil old.records
 
           records_are : new.records ++ new.hand ≡ kept ++ f.lost
-          records_are = ap (λ (x : List Rec). x ++ new.hand) f.records ∙ ap (λ (x : List Rec). kept ++ x) f.hand
+          records_are = ap (λ (x : List Rec). x ++ new.hand) f.records
+              ∙ ap (λ (x : List Rec). kept ++ x) f.hand
 
-          by_shape : Shape o.ceiling o.rec f.kept f.lost f.rest → HasLast sent kept × HasLast sent (kept ++ f.lost)
+          by_shape : Shape o.ceiling o.rec f.kept f.lost f.rest
+              → HasLast sent kept × HasLast sent (kept ++ f.lost)
           by_shape (inl h) = (
             as_before kept (none_kept h.0),
-            behind_all (kept ++ f.lost) (ap (λ (x : List Rec). x ++ f.lost) (none_kept h.0) ∙ ap (λ (x : List Rec). old.records ++ x) h.1),
+            behind_all (kept ++ f.lost) (ap (λ (x : List Rec). x ++ f.lost) (none_kept h.0)
+                ∙ ap (λ (x : List Rec). old.records ++ x) h.1),
           )
           by_shape (inr h) = elim (h.4) [
             | inl first ↦ (
               as_before kept (none_kept first.0),
-              as_raised (kept ++ f.lost) h.0 (ap (λ (x : List Rec). x ++ f.lost) (none_kept first.0) ∙ ap (λ (x : List Rec). old.records ++ x) first.1)
-                  (subst (λ (x : List Rec). IsBacked x (at_ceiling old.core o)) records_are (subst (λ (r : List (List Rec)). IsBacked (new.records ++ new.hand) (lost_state old.core o r)) first.2 fault.1)),
+              as_raised (kept ++ f.lost) h.0 (ap (λ (x : List Rec). x ++ f.lost) (none_kept first.0)
+                  ∙ ap (λ (x : List Rec). old.records ++ x) first.1)
+                  (subst (λ (x : List Rec). IsBacked x (at_ceiling old.core o)) records_are
+                  (subst (λ (r : List (List Rec)). IsBacked (new.records ++ new.hand)
+                  (lost_state old.core o r)) first.2 fault.1)),
             )
             | inr second ↦
-                let is : kept ≡ old.records ++ rec.Ceiling h.0 ∷ [] = ap (λ (ks : List (List Rec)). old.records ++ joined ks) second.0 in (
-                  as_raised kept h.0 is (subst (λ (x : List Rec). IsBacked x (at_ceiling old.core o)) f.records (subst (λ (ks : List (List Rec)). IsBacked new.records (kept_state old.core o ks)) second.0 fault.0)),
+                let is : kept ≡ old.records ++ rec.Ceiling h.0 ∷ [] =
+                ap (λ (ks : List (List Rec)). old.records ++ joined ks) second.0 in (
+                  as_raised kept h.0 is (subst (λ (x : List Rec). IsBacked x
+                      (at_ceiling old.core o)) f.records (subst (λ (ks : List (List Rec)).
+                      IsBacked new.records (kept_state old.core o ks)) second.0 fault.0)),
                   behind_all (kept ++ f.lost)
-                      (ap (λ (x : List Rec). x ++ f.lost) is ∙ ap (λ (x : List Rec). (old.records ++ rec.Ceiling h.0 ∷ []) ++ x) second.1 ∙ sym (both_appended old.records h.0 h.1)
-                      ∙ ap (λ (c : Option ℕ). old.records ++ joined (ceiling_append c ++ record_append (Some h.1))) (sym h.2) ∙ ap (λ (r : Option Rec). old.records ++ joined (ceiling_append o.ceiling ++ record_append r)) (sym h.3)),
+                      (ap (λ (x : List Rec). x ++ f.lost) is
+                      ∙ ap (λ (x : List Rec). (old.records ++ rec.Ceiling h.0 ∷ []) ++ x)
+                      second.1 ∙ sym (both_appended old.records h.0 h.1)
+                      ∙ ap (λ (c : Option ℕ). old.records
+                      ++ joined (ceiling_append c ++ record_append (Some h.1))) (sym h.2)
+                      ∙ ap (λ (r : Option Rec). old.records
+                      ++ joined (ceiling_append o.ceiling ++ record_append r)) (sym h.3)),
                 )
           ]
 
       failed : Done
       failed =
           let stopped : ShardState = record o.core { stopped = Some new.faults } in
-          let stands : IsRight sent stopped kept f.lost = record { kept = both_hands.0; with_hand = both_hands.1; runs = λ still. let wrong : Some new.faults ≡ None = still in cc } in (
-            same_sent sent (given_out a) new.core new.records new.hand (ap given_out f.told) (of_node sent stopped kept f.lost new f.core f.records f.hand stands),
+          let stands : IsRight sent stopped kept f.lost = record {
+            kept = both_hands.0;
+            with_hand = both_hands.1;
+            runs = λ still. let wrong : Some new.faults ≡ None = still in cc;
+          } in (
+            same_sent sent (given_out a) new.core new.records new.hand (ap given_out f.told)
+                (of_node sent stopped kept f.lost new f.core f.records f.hand stands),
             none_given (λ (x : Envelope). IsAlone x.msg) f.told,
           )
 
@@ -313,9 +416,12 @@ module _ (sent : List Envelope) (once : IsOnce (WasNamed sent)) (old : NodeState
       let given : given_out a ≡ given_out o.answer = ap given_out d.told in
       let out : All IsFault (given_out a) = subst (All IsFault) (sym given) s.out in
       let none : appends_of o ≡ [] = no_appends o s.ceiling s.rec in
-      let records : new.records ≡ old.records = d.records ∙ ap (λ (x : List (List Rec)). old.records ++ joined x) none ∙ append-nil old.records in (
-        of_node (sent ++ given_out a) old.core old.records old.hand new (d.core ∙ s.core) records d.hand
-            (right_more sent (given_out a) old.core old.records old.hand (λ told. All-weaker IsFault (λ (x : Envelope). IsToldBy told x.msg) (λ x h. h.1 told) (given_out a) out) right),
+      let records : new.records ≡ old.records = d.records
+      ∙ ap (λ (x : List (List Rec)). old.records ++ joined x) none ∙ append-nil old.records in (
+        of_node (sent ++ given_out a) old.core old.records old.hand new (d.core ∙ s.core)
+            records d.hand
+            (right_more sent (given_out a) old.core old.records old.hand (λ told. All-weaker IsFault
+            (λ (x : Envelope). IsToldBy told x.msg) (λ x h. h.1 told) (given_out a) out) right),
         All-weaker IsFault (λ (x : Envelope). IsAlone x.msg) (λ x h. h.0) (given_out a) out,
       )
 
@@ -324,15 +430,24 @@ module _ (sent : List Envelope) (once : IsOnce (WasNamed sent)) (old : NodeState
       let s = stopped_stays room old.core own e faults is in
       absurd (none_parts f.kept f.lost f.rest (sym (no_appends o s.ceiling s.rec) ∙ f.parted))
 
-  takes_by : (stops : Option ℕ) → old.core.stopped ≡ stops → (old.core.stopped ≡ None → KeepsTime old.core o) → (old.core.stopped ≡ None → IsBacked old.records old.core) → Appended old o a new ⊎ Failed old o a new → Done
+  takes_by : (stops : Option ℕ) → old.core.stopped ≡ stops → (old.core.stopped ≡ None
+      → KeepsTime old.core o) → (old.core.stopped ≡ None → IsBacked old.records old.core)
+      → Appended old o a new ⊎ Failed old o a new → Done
   takes_by None is time backed (inl d) = appended is (time is) d
   takes_by None is time backed (inr f) = failed is (time is) f (backed is)
   takes_by (Some faults) is time backed (inl d) = stopped faults is d
   takes_by (Some faults) is time backed (inr f) = not_failed faults is f
 
-pub takes_right : (sent : List Envelope) → IsOnce (WasNamed sent) → (old : NodeState) → old.core.part.shard ≡ 0 → (e : NodeEvent) (a : NodeAnswer) (new : NodeState) → (t : ShardTakes old e a new) → IsDurableNode old → (old.core.stopped ≡ None → KeepsTime old.core (core_step t.0 old.core e))
-    → EventAlone e.what → WasSent sent e.what → IsRight sent old.core old.records old.hand → IsRight (sent ++ given_out a) new.core new.records new.hand × All (λ (x : Envelope). IsAlone x.msg) (given_out a)
-takes_right sent once old own e a new t durable time alone comes right = takes_by sent once old own e a new t.0 alone comes right old.core.stopped refl time (λ running. (durable.running running).0) t.1
+pub takes_right : (sent : List Envelope) → IsOnce (WasNamed sent) → (old : NodeState)
+    → old.core.part.shard ≡ 0 → (e : NodeEvent) (a : NodeAnswer) (new : NodeState)
+    → (t : ShardTakes old e a new) → IsDurableNode old
+    → (old.core.stopped ≡ None → KeepsTime old.core (core_step t.0 old.core e))
+    → EventAlone e.what → WasSent sent e.what → IsRight sent old.core old.records old.hand
+    → IsRight (sent ++ given_out a) new.core new.records new.hand
+    × All (λ (x : Envelope). IsAlone x.msg) (given_out a)
+takes_right sent once old own e a new t durable time alone comes right =
+    takes_by sent once old own e a new t.0 alone comes right old.core.stopped refl time (λ running.
+    (durable.running running).0) t.1
 
 -- Starts.
 
@@ -345,7 +460,8 @@ not_next life boot now h k is = omega (arith, h, k, is)
 below_next : (life boot now : ℕ) → life ≤ boot → now ≡ boot + 1 → life ≤ now
 below_next life boot now h k = omega (arith, h, k)
 
-module _ (sent : List Envelope) (recs : List Rec) (faults : ℕ) (m : NodeState) (go : started 0 recs faults ≡ Some m) (alone : RecordsAlone (WasNamed sent) recs) (served : List Served) where
+module _ (sent : List Envelope) (recs : List Rec) (faults : ℕ) (m : NodeState) (go : started 0 recs
+    faults ≡ Some m) (alone : RecordsAlone (WasNamed sent) recs) (served : List Served) where
   abbrev all : List Rec
   all = recs ++ boot_behind (image_of recs) ∷ []
 
@@ -355,29 +471,46 @@ module _ (sent : List Envelope) (recs : List Rec) (faults : ℕ) (m : NodeState)
   booted : RecordsAlone (WasNamed sent) all
   booted = boot_alone (WasNamed sent) recs alone ((image_of recs).boot + 1)
 
-  started_right : Lasts sent all m.core served → Each (λ (x : Served). x.life ≡ m.core.part.boot → ⊥) served → IsRight sent m.core m.records m.hand
+  started_right : Lasts sent all m.core served → Each (λ (x : Served). x.life ≡ m.core.part.boot
+      → ⊥) served → IsRight sent m.core m.records m.hand
   started_right last new =
-      let sessions : m.core.part.sessions ≡ (image_of all).sessions = ap (λ (n : NodeState). n.core.part.sessions) is in
+      let sessions : m.core.part.sessions ≡ (image_of all).sessions =
+      ap (λ (n : NodeState). n.core.part.sessions) is in
       let runs : Runs (WasNamed sent) m.core (commits_by all) served = record {
         coord = ap (λ (n : NodeState). n.core.coord) is ∙ booted.coord;
         named = subst (SessionsNamed (WasNamed sent)) (sym sessions) booted.named;
-        has_served = each_more (λ (x : Served). x.life ≡ m.core.part.boot → ⊥) (λ (x : Served). x.life ≡ m.core.part.boot → IsHeld (WasNamed sent) m.core.part.sessions x.tag) (λ x never life. absurd (never life)) served new;
-        has_committed = subst (λ (t : Table). Each (λ (e : Entry). IsHeld (WasNamed sent) t e.tag) (commits_by all)) (sym sessions) booted.held;
+        has_served = each_more (λ (x : Served). x.life ≡ m.core.part.boot
+            → ⊥) (λ (x : Served). x.life ≡ m.core.part.boot → IsHeld (WasNamed sent)
+            m.core.part.sessions x.tag) (λ x never life. absurd (never life)) served new;
+        has_committed = subst (λ (t : Table). Each (λ (e : Entry). IsHeld (WasNamed sent) t e.tag)
+            (commits_by all)) (sym sessions) booted.held;
       } in
-      of_node sent m.core all [] m refl (ap (λ (n : NodeState). n.records) is) (ap (λ (n : NodeState). n.hand) is)
+      of_node sent m.core all [] m refl (ap (λ (n : NodeState). n.records) is)
+      (ap (λ (n : NodeState). n.hand) is)
       (record {
         kept = (m.core, served, last);
-        with_hand = (m.core, served, subst (λ (r : List Rec). Lasts sent r m.core served) (sym (append-nil all)) last);
+        with_hand = (
+          m.core,
+          served,
+          subst (λ (r : List Rec). Lasts sent r m.core served) (sym (append-nil all)) last,
+        );
         runs = λ running. (served, last, runs, refl);
       })
 
   backed_now : AreWritten recs → IsBacked all m.core
-  backed_now written = subst (λ (r : List Rec). IsBacked r m.core) (ap (λ (n : NodeState). n.records) is) (start_backed 0 recs faults m written go)
+  backed_now written = subst (λ (r : List Rec). IsBacked r m.core)
+      (ap (λ (n : NodeState). n.records) is) (start_backed 0 recs faults m written go)
 
-pub again_right : (sent : List Envelope) (n : NodeState) (recs : List Rec) (faults : ℕ) (m : NodeState) → IsDurableNode n → IsRight sent n.core n.records n.hand → IsLeft n recs → started 0 recs faults ≡ Some m → IsRight sent m.core m.records m.hand
+pub again_right : (sent : List Envelope) (n : NodeState) (recs : List Rec) (faults : ℕ)
+    (m : NodeState) → IsDurableNode n → IsRight sent n.core n.records n.hand → IsLeft n recs
+    → started 0 recs faults ≡ Some m → IsRight sent m.core m.records m.hand
 again_right sent n recs faults m durable right left go =
-    let h : HasLast sent recs = ⊎_elim (λ (at : recs ≡ n.records). subst (HasLast sent) (sym at) right.kept) (λ (at : recs ≡ n.records ++ n.hand). subst (HasLast sent) (sym at) right.with_hand) left in
-    let written : AreWritten recs = ⊎_elim (λ (at : recs ≡ n.records). subst AreWritten (sym at) (written_front n.records n.hand durable.written)) (λ (at : recs ≡ n.records ++ n.hand). subst AreWritten (sym at) durable.written) left in
+    let h : HasLast sent recs =
+    ⊎_elim (λ (at : recs ≡ n.records). subst (HasLast sent) (sym at) right.kept)
+    (λ (at : recs ≡ n.records ++ n.hand). subst (HasLast sent) (sym at) right.with_hand) left in
+    let written : AreWritten recs = ⊎_elim (λ (at : recs ≡ n.records). subst AreWritten (sym at)
+    (written_front n.records n.hand durable.written)) (λ (at : recs ≡ n.records ++ n.hand).
+    subst AreWritten (sym at) durable.written) left in
     let s : ShardState = h.0 in
     let served : List Served = h.1 in
     let l : Lasts sent recs s served = h.2 in
@@ -388,31 +521,41 @@ again_right sent n recs faults m durable right left go =
     started_right sent recs faults m go l.alone served
     (record {
       opens = prepared_ones l.opens;
-      holds = subst (λ (es : List Entry). IsServing m.core.part (prepared_ones l.opens) m.core.clock.last es served) (sym boot) (start_serves 0 recs faults m s l.opens (commits_by recs) served l.backed written l.holds l.clock go);
+      holds = subst (λ (es : List Entry). IsServing m.core.part (prepared_ones l.opens)
+          m.core.clock.last es served) (sym boot) (start_serves 0 recs faults m s l.opens
+          (commits_by recs) served l.backed written l.holds l.clock go);
       below = subst (Each (λ (e : Entry). e.at ≤ m.core.clock.last)) (sym boot)
-          (each_more (λ (e : Entry). e.at ≤ s.clock.last) (λ (e : Entry). e.at ≤ m.core.clock.last) (λ e k. above_all e.at s.clock.last s.clock.ceiling m.core.clock.last k l.clock last) (commits_by recs) l.below);
+          (each_more (λ (e : Entry). e.at ≤ s.clock.last) (λ (e : Entry). e.at ≤ m.core.clock.last)
+          (λ e k. above_all e.at s.clock.last s.clock.ceiling m.core.clock.last k l.clock last)
+          (commits_by recs) l.below);
       clock = same_both m.core.clock.last m.core.clock.ceiling s.clock.ceiling last top;
       backed = backed_now sent recs faults m go l.alone served written;
-      lives = each_more (λ (x : Served). x.life ≤ s.part.boot) (λ (x : Served). x.life ≤ m.core.part.boot) (λ x k. below_next x.life s.part.boot m.core.part.boot k found.boot) served l.lives;
+      lives = each_more (λ (x : Served). x.life ≤ s.part.boot) (λ (x : Served). x.life
+          ≤ m.core.part.boot) (λ x k. below_next x.life s.part.boot m.core.part.boot k found.boot)
+          served l.lives;
       told = l.told;
       asked = l.asked;
       alone = booted sent recs faults m go l.alone served;
     })
-    (each_more (λ (x : Served). x.life ≤ s.part.boot) (λ (x : Served). x.life ≡ m.core.part.boot → ⊥) (λ x k. not_next x.life s.part.boot m.core.part.boot k found.boot) served l.lives)
+    (each_more (λ (x : Served). x.life ≤ s.part.boot) (λ (x : Served). x.life ≡ m.core.part.boot
+    → ⊥) (λ x k. not_next x.life s.part.boot m.core.part.boot k found.boot) served l.lives)
   where
     same_both : (last ceiling top : ℕ) → last ≡ top → ceiling ≡ top → last ≤ ceiling
     same_both last ceiling top h k = omega (arith, h, k)
 
-pub first_right : (faults : ℕ) (m : NodeState) → started 0 [] faults ≡ Some m → IsRight [] m.core m.records m.hand
+pub first_right : (faults : ℕ) (m : NodeState) → started 0 [] faults ≡ Some m
+    → IsRight [] m.core m.records m.hand
 first_right faults m go =
     let alone = none_alone (WasNamed []) in
     let boot = boot_more [] ((image_of []).boot + 1) ∙ no_commits in
     started_right [] [] faults m go alone []
     (record {
       opens = none_open;
-      holds = subst (λ (es : List Entry). IsServing m.core.part none_open m.core.clock.last es []) (sym boot) (first_serves 0 faults m go);
+      holds = subst (λ (es : List Entry). IsServing m.core.part none_open m.core.clock.last es [])
+          (sym boot) (first_serves 0 faults m go);
       below = subst (Each (λ (e : Entry). e.at ≤ m.core.clock.last)) (sym boot) tt;
-      clock = subst (λ (n : NodeState). n.core.clock.last ≤ n.core.clock.ceiling) (sym (started_is 0 [] faults m go)) (same_time (image_of (boot_behind (image_of []) ∷ [])).ceiling);
+      clock = subst (λ (n : NodeState). n.core.clock.last ≤ n.core.clock.ceiling) (sym (started_is 0
+          [] faults m go)) (same_time (image_of (boot_behind (image_of []) ∷ [])).ceiling);
       backed = backed_now [] [] faults m go alone [] tt;
       lives = tt;
       told = nothing (λ (e : Envelope). IsToldBy [] e.msg);

@@ -14,7 +14,7 @@ use Rattle.journal_rec.specs.declared.record.Rec.{Rec}
 use Rattle.journal_rec.specs.declared.record.Rec.TheVariants as rec
 use Rattle.participant.specs.Part.{Part}
 use Rattle.participant.specs.declared.said.Said.{Said}
-use Rattle.participant.specs.declared.said.Said.TheVariants.{Did, Blocked, Refused, Late}
+use Rattle.participant.specs.declared.said.Said.TheVariants.{Did, Refused}
 use Rattle.session_table.specs.declared.session.Session.{Session}
 use Rattle.participant.specs.Part.{session}
 use Rattle.shard_core.specs.State.{ShardState}
@@ -40,15 +40,16 @@ EventAlone other = Unit {0}
 abbrev pub RecAlone : (Named → Type 0) → Rec → Type 0
 RecAlone P (rec.Boot boot) = Unit {0}
 RecAlone P (rec.Ceiling bound) = Unit {0}
-RecAlone P (rec.Commit tag lsid number read_at at writes) = P (record { tag = tag; lsid = lsid; number = number })
+RecAlone P (rec.Commit tag lsid number read_at at writes) =
+    P (record { tag = tag; lsid = lsid; number = number })
 RecAlone P other = ⊥
 
 -- the session has this number
 abbrev pub HasNumber : Part → Lsid → ℤ → Type 0
 HasNumber p lsid number = (s : Session) × (session p lsid ≡ Some s) × (s.number ≡ number)
 
--- a commit's record: it was named; its number is that of its session before, which has it still; and its time is at or
--- below the clock
+-- a commit's record: it was named; its number is that of its session before, which has it still;
+-- and its time is at or below the clock
 abbrev pub RecHeld : (Named → Type 0) → Part → Part → ℕ → Rec → Type 0
 RecHeld P p q last (rec.Commit tag lsid number read_at at writes) =
     P (record { tag = tag; lsid = lsid; number = number })
@@ -82,12 +83,14 @@ abbrev pub EventAtLeast : Part → Happening → Msg → Type 0
 EventAtLeast q (what.Deliver e) answer = ServedAtLeast q e.msg answer
 EventAtLeast q other answer = Unit {0}
 
--- A step: sessions go on; nothing is coordinated; what is recorded is a commit; and nothing is sent of a commit of several
--- shards.
-pub record StepAlone (P : Named → Type 0) (s : ShardState) (w : Happening) (o : CoreStep) : Type 0 where
+-- A step: sessions go on; nothing is coordinated; what is recorded is a commit; and nothing is sent
+-- of a commit of several shards.
+pub record StepAlone (P : Named → Type 0) (s : ShardState) (w : Happening)
+    (o : CoreStep) : Type 0 where
   pub goes : GoesOn P s.part o.core.part
   pub coord : o.core.coord ≡ []
-  pub rec : IfSome o.rec (λ (r : Rec). (p : Part) × GoesOn P s.part p × RecHeld P p o.core.part o.core.clock.last r)
+  pub rec : IfSome o.rec
+      (λ (r : Rec). (p : Part) × GoesOn P s.part p × RecHeld P p o.core.part o.core.clock.last r)
   pub out : All (λ (e : Envelope). IsAlone e.msg) (given_out o.answer)
   pub served : All (λ (e : Envelope). EventAtLeast o.core.part w e.msg) (given_out o.answer)
 

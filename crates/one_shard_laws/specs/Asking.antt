@@ -1,5 +1,5 @@
--- What stands at the routers of a cluster of one shard, so that none asks for a commit of several: of each transaction at
--- most the one shard wrote, and at most its answer is kept.
+-- What stands at the routers of a cluster of one shard, so that none asks for a commit of several:
+-- of each transaction at most the one shard wrote, and at most its answer is kept.
 use Rattle.std.specs.Prelude.{◌≡◌, ◌⊎◌, ℕ, List, [], ◌∷◌, All, Some, slice_get}
 use Rattle.txn_types.specs.declared.message.Answer.{Answer}
 use Rattle.router_state.specs.declared.deed.Deed.{Deed}
@@ -53,4 +53,5 @@ pub record MoveAsks (m : Move) : Type 0 where
   pub given : GivenAsks m.given
 
 abbrev pub AllRoutersAsk : Nodes → Type 0
-AllRoutersAsk nodes = (number : ℕ) (r : RouterState) → slice_get nodes.routers number ≡ Some r → RouterAsks r
+AllRoutersAsk nodes = (number : ℕ) (r : RouterState) → slice_get nodes.routers number ≡ Some r
+    → RouterAsks r

@@ -19,9 +19,9 @@ pub record StartsAlone (chunks : Map) (nodes : Nodes) : Type 0 where
   pub shards : nodes.shards ≡ node ∷ []
   pub starts : started 0 [] faults ≡ Some node
 
--- The statements that were served, in any boot: each was sent; it was told what it means over the commits that there are
--- now, under what its transaction wrote before it; each commit holds what the statements of its transaction wrote; and
--- each Answer that was sent tells of one of them.
+-- The statements that were served, in any boot: each was sent; it was told what it means over the
+-- commits that there are now, under what its transaction wrote before it; each commit holds what
+-- the statements of its transaction wrote; and each Answer that was sent tells of one of them.
 pub record ServedRight (nodes : Nodes) : Type 0 where
   pub served : List Served
   pub asked : Each (WasAsked nodes.sent) served

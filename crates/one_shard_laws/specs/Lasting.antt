@@ -27,23 +27,25 @@ WasNamed sent x = Contains (filter_map (λ e. named_in e.msg) sent) x
 
 -- the statement was sent
 abbrev pub WasAsked : List Envelope → Served → Type 0
-WasAsked sent x = (e : Envelope) × (m : Statement) × Contains sent e × (e.msg ≡ msg.Statement m) × IsOf m x
+WasAsked sent x = (e : Envelope) × (m : Statement) × Contains sent e
+    × (e.msg ≡ msg.Statement m) × IsOf m x
 
 -- the commits of one journal
 abbrev pub commits_by : List Rec → List Entry
 commits_by recs = commits (recs ∷ [])
 
--- Records of a shard that commits alone: each was named, and each commit's session stands in the state that they leave, with
--- its number or a larger one.
+-- Records of a shard that commits alone: each was named, and each commit's session stands in the
+-- state that they leave, with its number or a larger one.
 pub record RecordsAlone (P : Named → Type 0) (recs : List Rec) : Type 0 where
   pub records : All (RecAlone P) recs
   pub coord : (image_of recs).coord ≡ []
   pub named : SessionsNamed P (image_of recs).sessions
   pub held : Each (λ e. IsHeld P (image_of recs).sessions e.tag) (commits_by recs)
 
--- A state of a shard, with the records that hold it: its part is right beside their commits and what was served, which all
--- Answers that were sent tell of.
-pub record Lasts (sent : List Envelope) (recs : List Rec) (s : ShardState) (served : List Served) : Type 0 where
+-- A state of a shard, with the records that hold it: its part is right beside their commits and
+-- what was served, which all Answers that were sent tell of.
+pub record Lasts (sent : List Envelope) (recs : List Rec) (s : ShardState)
+    (served : List Served) : Type 0 where
   pub opens : Opens
   pub holds : IsServing s.part opens s.clock.last (commits_by recs) served
   pub below : Each (λ e. e.at ≤ s.clock.last) (commits_by recs)
@@ -54,22 +56,25 @@ pub record Lasts (sent : List Envelope) (recs : List Rec) (s : ShardState) (serv
   pub asked : Each (WasAsked sent) served
   pub alone : RecordsAlone (WasNamed sent) recs
 
--- a shard that runs has the session of each transaction that it served in this boot, and of each that committed
-pub record Runs (P : Named → Type 0) (s : ShardState) (entries : List Entry) (served : List Served) : Type 0 where
+-- a shard that runs has the session of each transaction that it served in this boot, and of each
+-- that committed
+pub record Runs (P : Named → Type 0) (s : ShardState) (entries : List Entry)
+    (served : List Served) : Type 0 where
   pub coord : s.coord ≡ []
   pub named : SessionsNamed P s.part.sessions
   pub has_served : Each (λ x. x.life ≡ s.part.boot → IsHeld P s.part.sessions x.tag) served
   pub has_committed : Each (λ e. IsHeld P s.part.sessions e.tag) entries
 
--- Of a node, by its core, its records and those in hand: what its records hold is right, and so is what they hold with those
--- in hand; and while it runs, that is its own state.
+-- Of a node, by its core, its records and those in hand: what its records hold is right, and so is
+-- what they hold with those in hand; and while it runs, that is its own state.
 
 abbrev pub HasLast : List Envelope → List Rec → Type 0
 HasLast sent recs = (s : ShardState) × (served : List Served) × Lasts sent recs s served
 
 abbrev pub HasRun : List Envelope → ShardState → List Rec → List Rec → Type 0
 HasRun sent core recs hand =
-    (served : List Served) × Lasts sent recs core served × Runs (WasNamed sent) core (commits_by recs) served × (hand ≡ [])
+    (served : List Served) × Lasts sent recs core served
+    × Runs (WasNamed sent) core (commits_by recs) served × (hand ≡ [])
 
 pub record IsRight (sent : List Envelope) (core : ShardState) (recs hand : List Rec) : Type 0 where
   pub kept : HasLast sent recs

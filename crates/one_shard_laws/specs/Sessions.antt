@@ -1,5 +1,6 @@
--- Sessions go on: their numbers don't fall, and each transaction that one has was named by a message.
-use Rattle.std.specs.Prelude.{◌≡◌, ◌≤ℤ◌, ℤ, Option, Some}
+-- Sessions go on: their numbers don't fall, and each transaction that one has was named by a
+-- message.
+use Rattle.std.specs.Prelude.{◌≡◌, ◌≤ℤ◌, ℤ, Some}
 use Rattle.txn_types.specs.declared.names.Tag.{Tag}
 use Rattle.txn_types.specs.declared.node.Lsid.{Lsid}
 use Rattle.session_table.specs.declared.session.Session.{Session}
@@ -16,10 +17,12 @@ abbrev pub name_of : Lsid → Session → Named
 name_of lsid s = record { tag = s.tag; lsid = lsid; number = s.number }
 
 abbrev pub SessionsNamed : (Named → Type 0) → Table → Type 0
-SessionsNamed P table = (lsid : Lsid) (s : Session) → session_of table lsid ≡ Some s → P (name_of lsid s)
+SessionsNamed P table = (lsid : Lsid) (s : Session) → session_of table lsid ≡ Some s
+    → P (name_of lsid s)
 
 pub record TablesGo (P : Named → Type 0) (old new : Table) : Type 0 where
-  pub numbers : (lsid : Lsid) (s : Session) → session_of old lsid ≡ Some s → AtLeast new lsid s.number
+  pub numbers : (lsid : Lsid) (s : Session) → session_of old lsid ≡ Some s
+      → AtLeast new lsid s.number
   pub named : SessionsNamed P old → SessionsNamed P new
 
 -- a part goes on, of its shard and in its boot
