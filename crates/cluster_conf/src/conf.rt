@@ -113,7 +113,7 @@ fn settings_of(alloc: Global, table: &Table) -> Result<Conf, ConfErr>
 
 impl Conf {
     ghost use Rattle.std.specs.Prelude.{◌≡◌, IfOk, IfErr};
-    ghost use Rattle.cluster_conf.specs.Conf.{Gives, conf_of, plain};
+    ghost use Rattle.cluster_conf.specs.Conf.{Gives, IsSettings, conf_of, plain};
     ghost use Rattle.cluster_conf.specs.declared.conf.ConfErr.TheVariants.{Memory};
 
     /// The configuration that the text is, in TOML. Otherwise the first of these refusals is answered: `NotToml`; `Key` with
@@ -155,7 +155,9 @@ impl Conf {
 
     /// How many shards there are: 1 to 16.
     pub fn shards(&self) -> u16
-        ensures { result ≡ self.now.shards }
+        ensures value { result ≡ self.now.shards }
+        // What holds of each configuration.
+        ensures settings { IsSettings self.now }
     {
         self.shards
     }

@@ -193,6 +193,7 @@ impl<D: Disk> ShardNode<DiskLog<D>> {
     /// The disk, to start again. A crash leaves the node's records, or these and the one in hand.
     pub fn into_disk(self) -> D
         ensures disk { result ≡ self.log.journal.disk }
+        ensures faults { D.fault_count result ≡ self.node.faults }
         ensures hand { self.node.hand ≡ listed self.log.hand }
         ensures left { IsTrue (D.tells result) → LeftOf (D.may_leave result) self.node.records self.log.hand }
     {
