@@ -1,6 +1,6 @@
 # What a new user and the gate call. `rt` is the command of the Rattle kit.
 
-.PHONY: demo first-insert play test build bench bench-codecs
+.PHONY: demo first-insert play test build bench bench-codecs bench-growth
 
 SHELL := bash
 .SHELLFLAGS := -o pipefail -c
@@ -30,6 +30,10 @@ build:
 # How many commands a second the proved program does (docs/BENCH.md). No part of the gate.
 bench:
 	bench/commands
+
+# How the time of a message grows with what it holds and with what is stored (docs/BENCH.md). No part of the gate.
+bench-growth:
+	bench/growth
 
 # How many megabytes of documents a second are read and written (docs/BENCH.md). No part of the gate.
 bench-codecs:
