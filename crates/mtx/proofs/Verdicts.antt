@@ -57,6 +57,9 @@ one_verdict input status.Ok (status.BadWords i) p q = absurd q
 one_verdict input status.Ok status.ReadFault p q = absurd q
 one_verdict input status.Ok status.WriteFault p q = absurd q
 one_verdict input status.Ok status.Memory p q = absurd q
+one_verdict input status.Ok status.BadConf p q = absurd q
+one_verdict input status.Ok (status.DiskFault disk) p q = absurd q
+one_verdict input status.Ok (status.BadJournal disk index) p q = absurd q
 one_verdict input (status.BadLine n) status.Ok p q = absurd (playable_not_bad n input q p)
 one_verdict input (status.BadLine n) (status.BadLine m) p q = ap (λ (k : ℕ). status.BadLine k) (one_bad_line n m input p q)
 one_verdict input (status.BadLine n) status.Budget p q = absurd (overrun_not_bad n input q p)
@@ -64,6 +67,9 @@ one_verdict input (status.BadLine n) (status.BadWords i) p q = absurd q
 one_verdict input (status.BadLine n) status.ReadFault p q = absurd q
 one_verdict input (status.BadLine n) status.WriteFault p q = absurd q
 one_verdict input (status.BadLine n) status.Memory p q = absurd q
+one_verdict input (status.BadLine n) status.BadConf p q = absurd q
+one_verdict input (status.BadLine n) (status.DiskFault disk) p q = absurd q
+one_verdict input (status.BadLine n) (status.BadJournal disk index) p q = absurd q
 one_verdict input status.Budget status.Ok p q = absurd (playable_not_overrun input q p)
 one_verdict input status.Budget (status.BadLine n) p q = absurd (overrun_not_bad n input p q)
 one_verdict input status.Budget status.Budget p q = refl
@@ -71,18 +77,25 @@ one_verdict input status.Budget (status.BadWords i) p q = absurd q
 one_verdict input status.Budget status.ReadFault p q = absurd q
 one_verdict input status.Budget status.WriteFault p q = absurd q
 one_verdict input status.Budget status.Memory p q = absurd q
+one_verdict input status.Budget status.BadConf p q = absurd q
+one_verdict input status.Budget (status.DiskFault disk) p q = absurd q
+one_verdict input status.Budget (status.BadJournal disk index) p q = absurd q
 one_verdict input (status.BadWords i) s p q = absurd p
 one_verdict input status.ReadFault s p q = absurd p
 one_verdict input status.WriteFault s p q = absurd p
 one_verdict input status.Memory s p q = absurd p
+one_verdict input status.BadConf s p q = absurd p
+one_verdict input (status.DiskFault disk) s p q = absurd p
+one_verdict input (status.BadJournal disk index) s p q = absurd p
 
 found_in : (input : List ℕ) (r : Status) → Judges input r ⊎ IsInterrupted r → (s : Status) → Judges input s → (r ≡ s) ⊎ IsInterrupted r
 found_in input r (inl judged) s q = inl (one_verdict input r s judged q)
 found_in input r (inr interrupted) s q = inr interrupted
 
-pub found : (left : Option (List ℕ)) (r : Status) → Told left (λ input. Judges input r ⊎ IsInterrupted r) → Told left (λ input. (s : Status) → Judges input s → (r ≡ s) ⊎ IsInterrupted r)
-found None r h = tt
-found (Some input) r h = found_in input r h
+pub found : (left : Option (List ℕ)) (P : List ℕ → Type 0) (r : Status) → Told left (λ input. P input → Judges input r ⊎ IsInterrupted r)
+    → Told left (λ input. P input → (s : Status) → Judges input s → (r ≡ s) ⊎ IsInterrupted r)
+found None P r h = tt
+found (Some input) P r h = λ p. found_in input r (h p)
 
 -- a schedule that can be played was, where the status is neither of the faults, or memory ran out
 pub played_or_memory : (input : List ℕ) (r : Status) → IsPlayable input → ((s : Status) → Judges input s → (r ≡ s) ⊎ IsInterrupted r) → (r ≡ status.ReadFault → ⊥) → (r ≡ status.WriteFault → ⊥) → (r ≡ status.Ok) ⊎ (r ≡ status.Memory)
@@ -93,3 +106,6 @@ played_or_memory input status.WriteFault playable told no_read no_write = absurd
 played_or_memory input (status.BadLine n) playable told no_read no_write = elim (told status.Ok playable) [ inl is ↦ inl is | inr interrupted ↦ absurd interrupted ]
 played_or_memory input status.Budget playable told no_read no_write = elim (told status.Ok playable) [ inl is ↦ inl is | inr interrupted ↦ absurd interrupted ]
 played_or_memory input (status.BadWords i) playable told no_read no_write = elim (told status.Ok playable) [ inl is ↦ inl is | inr interrupted ↦ absurd interrupted ]
+played_or_memory input status.BadConf playable told no_read no_write = elim (told status.Ok playable) [ inl is ↦ inl is | inr interrupted ↦ absurd interrupted ]
+played_or_memory input (status.DiskFault disk) playable told no_read no_write = elim (told status.Ok playable) [ inl is ↦ inl is | inr interrupted ↦ absurd interrupted ]
+played_or_memory input (status.BadJournal disk index) playable told no_read no_write = elim (told status.Ok playable) [ inl is ↦ inl is | inr interrupted ↦ absurd interrupted ]

@@ -13,6 +13,9 @@ Judges input (status.BadWords index) = ⊥
 Judges input status.ReadFault = ⊥
 Judges input status.WriteFault = ⊥
 Judges input status.Memory = ⊥
+Judges input status.BadConf = ⊥
+Judges input (status.DiskFault disk) = ⊥
+Judges input (status.BadJournal disk index) = ⊥
 
 -- something outside failed, or there was no memory
 abbrev pub IsInterrupted : Status → Type 0
@@ -23,6 +26,9 @@ IsInterrupted status.Ok = ⊥
 IsInterrupted (status.BadLine line) = ⊥
 IsInterrupted status.Budget = ⊥
 IsInterrupted (status.BadWords index) = ⊥
+IsInterrupted status.BadConf = ⊥
+IsInterrupted (status.DiskFault disk) = ⊥
+IsInterrupted (status.BadJournal disk index) = ⊥
 
 -- what was written behind what the sink held before
 abbrev pub Wrote : List ℕ → List ℕ → List ℕ → Status → Type 0
@@ -33,6 +39,9 @@ Wrote input before after status.WriteFault = CutShort input before after
 Wrote input before after status.Memory = CutShort input before after
 Wrote input before after status.ReadFault = after ≡ before
 Wrote input before after (status.BadWords index) = after ≡ before
+Wrote input before after status.BadConf = ⊥
+Wrote input before after (status.DiskFault disk) = ⊥
+Wrote input before after (status.BadJournal disk index) = ⊥
 
 -- the schedule wasn't read to where it is played
 abbrev pub IsUnread : Status → Type 0
@@ -43,3 +52,6 @@ IsUnread (status.BadLine line) = ⊥
 IsUnread status.Budget = ⊥
 IsUnread status.WriteFault = ⊥
 IsUnread status.Memory = ⊥
+IsUnread status.BadConf = ⊥
+IsUnread (status.DiskFault disk) = ⊥
+IsUnread (status.BadJournal disk index) = ⊥

@@ -4,3 +4,4 @@ pub mod Playing
 pub mod OneLine
 pub mod Ending
 pub mod Statuses
+pub mod Choice

@@ -1,15 +1,18 @@
-//! `mtx play` reads a schedule of clients' messages from standard input, and writes the replies and the list of
-//! commits to standard output.
+//! `mtx play` reads a schedule from standard input: clients' messages, and what happens between the nodes of a cluster. It
+//! writes the replies and the list of commits to standard output.
 #![tactic(auto)]
+ghost use Rattle.std.specs.Prelude.{◌≡◌, ◌≤◌, vec_len, IfOk, OnOk};
 
 pub mod laws;
 mod offline;
+mod plain;
 mod status;
 mod stdio;
 #[cfg(test)]
 mod tests;
 
 use offline::offline;
+use outside_core::{MemDisk, Sink, Source};
 use status::Status;
 use std::alloc::{AllocError, Global};
 use std::env::{Env, FillError};
@@ -18,6 +21,10 @@ use stdio::{ReaderSource, WriterSink};
 
 /// How the program is called, as it says on standard error where its words are none of these.
 const USAGE: &str = "usage: mtx play < SCHEDULE";
+
+/// How many bytes the disk in memory of a shard holds, and of a router.
+const SHARD_BYTES: usize = 2_097_152;
+const ROUTER_BYTES: usize = 65_536;
 
 /// How many bytes a word may have; none of a command is so long.
 const LONGEST: usize = 256;
@@ -55,12 +62,53 @@ fn words_of<E: Env>(alloc: Global, env: &E) -> Result<Vec<String>, AllocError> {
     Ok(words)
 }
 
+/// Puts empty disks behind others, until there are so many.
+fn put_disks(
+    alloc: Global,
+    disks: &mut Vec<MemDisk>,
+    count: usize,
+    capacity: usize,
+) -> Result<(), AllocError>
+    requires { vec_len disks.old ≤ count }
+    ensures { OnOk result (vec_len disks.new ≡ count) }
+{
+    while disks.len() < count {
+        let Ok(disk) = MemDisk::new(alloc, capacity) else {
+            return Err(AllocError);
+        };
+        disks.push(disk)?;
+    }
+    Ok(())
+}
+
+/// The disks in memory of 16 shards and 8 routers.
+fn disks_of(alloc: Global) -> Result<Vec<MemDisk>, AllocError>
+    ensures { IfOk result (λ disks. vec_len disks ≡ 24) }
+{
+    let mut disks = Vec::new(alloc);
+    put_disks(alloc, &mut disks, 16, SHARD_BYTES)?;
+    put_disks(alloc, &mut disks, 24, ROUTER_BYTES)?;
+    Ok(disks)
+}
+
+/// Does what the words of the command line say, over disks in memory.
+fn run<E: Env, S: Source, K: Sink>(
+    alloc: Global,
+    env: &E,
+    source: &mut S,
+    sink: &mut K,
+) -> Result<Status, AllocError> {
+    let words = words_of(alloc, env)?;
+    let mut disks = disks_of(alloc)?;
+    Ok(offline(alloc, &words, source, sink, &mut disks))
+}
+
 fn main(rt: HostRuntime) -> ExitCode {
     let alloc = rt.alloc();
     let mut source = ReaderSource::new(rt.stdin());
     let mut sink = WriterSink::new(rt.stdout());
-    let status = match words_of(alloc, &rt) {
-        Ok(words) => offline(alloc, &words, &mut source, &mut sink),
+    let status = match run(alloc, &rt, &mut source, &mut sink) {
+        Ok(status) => status,
         Err(AllocError) => Status::Memory,
     };
     // Where standard error can't be written, the exit status tells the same.

@@ -1,111 +1,45 @@
-ghost use Rattle.std.specs.Prelude.{◌≡◌, ◌≤◌, ◌<◌, ◌+◌, ◌^◌, ◌↔◌, ◌⊎◌, ◌++◌, [], ℕ, Some, None, length, map, string_bytes, OnOk, OnErr, IfOk};
-ghost use Rattle.outcomes.specs.Causes.{Rose, FailsOnly};
+ghost use Rattle.std.specs.Prelude.{◌≡◌, ◌↔◌, ◌⊎◌, [], ℕ, List, Some, None, IsTrue, map, string_bytes, vec_len};
+ghost use Rattle.outcomes.specs.Causes.{Rose};
 ghost use Rattle.outcomes.specs.Told.{Told};
-ghost use Rattle.outside_core.specs.Bytes.{Went, WentInPart};
-ghost use Rattle.play_script.specs.Lines.{lines_of, IsBad};
-ghost use Rattle.play_run.specs.Standing.{IsReady};
-ghost use Rattle.play_run.specs.Text.{dump};
+ghost use Rattle.play_script.specs.Lines.{lines_of};
 ghost use Rattle.mtx.specs.Words.{word_at_fault};
-ghost use Rattle.mtx.specs.Playing.{PlayedAll, PlayedUpTo, PlayedInPart};
+ghost use Rattle.mtx.specs.Choice.{has_clients_alone, AskAlone, IsPlayed};
 ghost use Rattle.mtx.specs.Ending.{Judges, IsInterrupted, Wrote, IsUnread};
 ghost use Rattle.mtx.specs.declared.status.Status.{Status as AnyStatus};
-ghost use Rattle.mtx.specs.OneLine.{AnsweredLine, AnsweredInPart};
 
+use crate::plain::play_plain;
 use crate::status::Status;
-use outside_core::{Sink, SinkErr, Source, SourceErr, write_all};
-use play_run::{Desk, put_dump};
-use play_script::{End, LineErr, next_line, read_ask, read_input};
+use cluster_play::play_input;
+use outside_core::{Disk, Sink, Source, SourceErr};
+use play_script::{next_line, read_input};
 use std::alloc::Global;
-use txn_semantics::Entry;
 
-/// Why the playing of lines stopped.
-#[derive(Clone, Copy, Debug, PartialEq, Eq)]
-enum Stop {
-    /// The line, from 1, is outside the form.
-    BadLine { line: u64 },
-    /// The sink failed.
-    WriteFault,
-    /// There was no memory.
-    Memory,
-}
-
-/// Plays one line, the one of that number, and writes what it is answered.
-fn play_line<K: Sink>(
-    alloc: Global,
-    desk: &mut Desk,
-    number: u64,
-    line: &[u8],
-    out: &mut K,
-) -> Result<(), Stop>
-    requires { IsReady desk.old }
-    ensures ok { OnOk result (AnsweredLine line.now desk.old desk.new (K.held out.old) (K.held out.new)) }
-    ensures ready { OnOk result (IsReady desk.new) }
-    ensures bad { (n : ℕ) → result ≡ Err (Stop.BadLine n) → (n ≡ number) × IsBad line.now × (K.held out.new ≡ K.held out.old) }
-    ensures part { OnErr result (AnsweredInPart line.now desk.old (K.held out.old) (K.held out.new)) }
-    ensures faults { FailsOnly Stop.WriteFault (K.fault_count out.old) (K.fault_count out.new) result }
+/// Whether each line is of a client.
+fn has_clients_alone(schedule: &[u8]) -> bool
+    ensures { result ≡ has_clients_alone (lines_of schedule.now) }
 {
-    let ask = match read_ask(alloc, line) {
-        Ok(ask) => ask,
-        Err(LineErr::Form) => return Err(Stop::BadLine { line: number }),
-        Err(LineErr::Hex) => return Err(Stop::BadLine { line: number }),
-        Err(LineErr::Number) => return Err(Stop::BadLine { line: number }),
-        Err(LineErr::Memory) => return Err(Stop::Memory),
-    };
-    let Ok(text) = desk.serve(alloc, ask.connection, ask.bytes.as_slice()) else {
-        return Err(Stop::Memory);
-    };
-    match write_all(out, text.as_slice()) {
-        Ok(()) => Ok(()),
-        Err(SinkErr::Failed) => Err(Stop::WriteFault),
-        Err(SinkErr::Memory) => Err(Stop::Memory),
-    }
-}
-
-/// The desk behind all lines, and how many there were.
-#[derive(Drop)]
-struct Behind {
-    desk: Desk,
-    lines: u64,
-}
-
-/// Plays the lines in their order, and writes what they are answered.
-fn play_lines<K: Sink>(alloc: Global, input: &[u8], out: &mut K) -> Result<Behind, Stop>
-    requires { length (lines_of input.now) ≤ 10000000 }
-    ensures ok { IfOk result (λ b. PlayedAll input.now b.lines b.desk (K.held out.old) (K.held out.new)) }
-    ensures bad { (n : ℕ) → result ≡ Err (Stop.BadLine n) → PlayedUpTo n input.now (K.held out.old) (K.held out.new) }
-    ensures part { OnErr result (PlayedInPart input.now (K.held out.old) (K.held out.new)) }
-    ensures faults { FailsOnly Stop.WriteFault (K.fault_count out.old) (K.fault_count out.new) result }
-{
-    let mut desk = Desk::new(alloc);
-    let mut rest = input;
-    let mut lines: u64 = 0;
+    let mut rest = schedule;
     while !rest.is_empty() {
-        lines += 1;
         let (line, after) = next_line(rest);
-        play_line(alloc, &mut desk, lines, line, out)?;
+        if !line.starts_with(b"client ") {
+            return false;
+        }
         rest = after;
     }
-    Ok(Behind { desk, lines })
+    true
 }
 
-/// Writes the list of commits.
-fn write_dump<K: Sink>(alloc: Global, entries: &[Entry], out: &mut K) -> Result<(), SinkErr>
-    ensures ok { OnOk result (Went (K.held out.old) (K.held out.new) (dump entries.now)) }
-    ensures part { WentInPart (K.held out.old) (K.held out.new) (dump entries.now) }
-    ensures faults { FailsOnly SinkErr.Failed (K.fault_count out.old) (K.fault_count out.new) result }
-{
-    let mut text = Vec::new(alloc);
-    let Ok(()) = put_dump(alloc, &mut text, entries) else {
-        return Err(SinkErr::Memory);
-    };
-    write_all(out, text.as_slice())
-}
-
-/// Reads the whole schedule, and then plays it.
-fn play<S: Source, K: Sink>(alloc: Global, src: &mut S, out: &mut K) -> Status
-    ensures at_end { result ≡ Status.Ok → Told (S.left src.old) (λ _. S.left src.new ≡ Some []) }
-    ensures judged { Told (S.left src.old) (λ input. Judges input result ⊎ IsInterrupted result) }
-    ensures text { Told (S.left src.old) (λ input. Told (K.held out.old) (λ before. Told (K.held out.new) (λ after. Wrote input before after result))) }
+/// Reads the whole schedule, and then plays it: over one node where all its lines are of clients, and else over a cluster.
+fn play<S: Source, K: Sink, D: Disk>(
+    alloc: Global,
+    src: &mut S,
+    out: &mut K,
+    disks: &mut Vec<D>,
+) -> Status
+    requires disks { vec_len disks.old ≡ 24 }
+    ensures played { Told (S.left src.old) (λ input. IsPlayed ((d : D) → IsTrue (D.tells d)) input (K.held out.old) (K.held out.new) result) }
+    ensures at_end { result ≡ Status.Ok → Told (S.left src.old) (λ input. AskAlone input → S.left src.new ≡ Some []) }
+    ensures disks { vec_len disks.new ≡ 24 }
     ensures unread { IsUnread result → K.held out.new ≡ K.held out.old }
     ensures words { (index : ℕ) → result ≡ Status.BadWords index → ⊥ }
     ensures read_fault { result ≡ Status.ReadFault → Rose (S.fault_count src.old) (S.fault_count src.new) }
@@ -116,41 +50,35 @@ fn play<S: Source, K: Sink>(alloc: Global, src: &mut S, out: &mut K) -> Status
         Err(SourceErr::Failed) => return Status::ReadFault,
         Err(SourceErr::Memory) => return Status::Memory,
     };
-    let behind = match play_lines(alloc, input.bytes.as_slice(), out) {
-        Ok(behind) => behind,
-        Err(Stop::BadLine { line }) => return Status::BadLine { line },
-        Err(Stop::WriteFault) => return Status::WriteFault,
-        Err(Stop::Memory) => return Status::Memory,
-    };
-    match input.end {
-        End::LongLine => Status::BadLine {
-            line: behind.lines + 1,
-        },
-        End::ManyLines => Status::Budget,
-        End::Whole => match write_dump(alloc, &behind.desk.server.entries, out) {
-            Ok(()) => Status::Ok,
-            Err(SinkErr::Failed) => Status::WriteFault,
-            Err(SinkErr::Memory) => Status::Memory,
-        },
+    if has_clients_alone(&input.bytes) {
+        return play_plain(alloc, &input.bytes, input.end, out);
     }
+    Status::from(play_input(alloc, input, out, disks))
 }
 
 /// Does what the words of the command line say. The only command so far is `play`.
-pub fn offline<S: Source, K: Sink>(
+pub fn offline<S: Source, K: Sink, D: Disk>(
     alloc: Global,
     words: &[String],
     src: &mut S,
     out: &mut K,
+    disks: &mut Vec<D>,
 ) -> Status
+    // Place `n` is shard `n`'s, place `16 + n` router `n`'s; all are at their places again behind the call.
+    requires disks { vec_len disks.old ≡ 24 }
     // The words are refused exactly where they are no command.
     ensures bad_words { (index : ℕ) → (result ≡ Status.BadWords index) ↔ (word_at_fault (map string_bytes words.now) ≡ Some index) }
-    // The status is the schedule's, or something outside failed, or there was no memory.
-    ensures judged { word_at_fault (map string_bytes words.now) ≡ None → Told (S.left src.old) (λ input. Judges input result ⊎ IsInterrupted result) }
-    // A schedule has one status.
-    ensures found { word_at_fault (map string_bytes words.now) ≡ None → Told (S.left src.old) (λ input. (status : AnyStatus) → Judges input status → (result ≡ status) ⊎ IsInterrupted result) }
+    // What was read was played, over one node where all its lines are of clients, and else over a cluster.
+    ensures played { word_at_fault (map string_bytes words.now) ≡ None → Told (S.left src.old) (λ input. IsPlayed ((d : D) → IsTrue (D.tells d)) input (K.held out.old) (K.held out.new) result) }
+    // Of a schedule whose lines are all of clients: the status is the schedule's, or something outside failed, or there was no
+    // memory.
+    ensures judged { word_at_fault (map string_bytes words.now) ≡ None → Told (S.left src.old) (λ input. AskAlone input → Judges input result ⊎ IsInterrupted result) }
+    // It has one status.
+    ensures found { word_at_fault (map string_bytes words.now) ≡ None → Told (S.left src.old) (λ input. AskAlone input → (status : AnyStatus) → Judges input status → (result ≡ status) ⊎ IsInterrupted result) }
     // What was written is the text of the lines that were played, and the answers are those of one list of commits.
-    ensures text { Told (S.left src.old) (λ input. Told (K.held out.old) (λ before. Told (K.held out.new) (λ after. Wrote input before after result))) }
-    ensures at_end { result ≡ Status.Ok → Told (S.left src.old) (λ _. S.left src.new ≡ Some []) }
+    ensures text { Told (S.left src.old) (λ input. AskAlone input → Told (K.held out.old) (λ before. Told (K.held out.new) (λ after. Wrote input before after result))) }
+    ensures at_end { result ≡ Status.Ok → Told (S.left src.old) (λ input. AskAlone input → S.left src.new ≡ Some []) }
+    ensures disks { vec_len disks.new ≡ 24 }
     ensures unread { IsUnread result → K.held out.new ≡ K.held out.old }
     // A fault is answered only where that object's count rose in this call.
     ensures read_fault { result ≡ Status.ReadFault → Rose (S.fault_count src.old) (S.fault_count src.new) }
@@ -158,7 +86,7 @@ pub fn offline<S: Source, K: Sink>(
 {
     match words {
         [] => Status::BadWords { index: 0 },
-        [word] if word.as_str() == "play" => play(alloc, src, out),
+        [word] if word.as_str() == "play" => play(alloc, src, out, disks),
         [word, ..] if word.as_str() == "play" => Status::BadWords { index: 1 },
         _ => Status::BadWords { index: 0 },
     }

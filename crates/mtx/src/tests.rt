@@ -1,4 +1,5 @@
 use crate::offline::offline;
+use crate::put_disks;
 use crate::status::Status;
 use outside_core::{MemSink, MemSource, Sink, Source};
 use std::alloc::{AllocError, Global};
@@ -35,7 +36,9 @@ fn play(
 ) -> Result<Ran, AllocError> {
     let mut source = MemSource::of(Vec::from_slice(alloc, input.as_bytes())?, read_fails);
     let mut sink = MemSink::new(alloc, write_fails);
-    let status = offline(alloc, words, &mut source, &mut sink);
+    let mut disks = Vec::new(alloc);
+    put_disks(alloc, &mut disks, 24, 4096)?;
+    let status = offline(alloc, words, &mut source, &mut sink, &mut disks);
     Ok(Ran {
         status,
         text: Vec::from_slice(alloc, sink.bytes())?,
@@ -61,6 +64,14 @@ fn words_and_lines_that_are_refused(rt: HostRuntime) -> Result<(), Fail> {
         ("play", "", Status::Ok, "dump 0\n"),
         ("play", "deliver 0\n", Status::BadLine { line: 1 }, ""),
         ("play", "\n", Status::BadLine { line: 1 }, ""),
+        ("play", "+++\n", Status::BadLine { line: 1 }, ""),
+        ("play", "+++\nshards = 17\n+++\n", Status::BadConf, ""),
+        (
+            "play",
+            "log\nrestart shard 0\ndump\n",
+            Status::Ok,
+            "boot s0 2\ndump 0\ndump 0\n",
+        ),
         ("play", "client 01 00", Status::BadLine { line: 1 }, ""),
         (
             "play",

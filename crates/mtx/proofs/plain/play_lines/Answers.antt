@@ -4,11 +4,11 @@ use Rattle.std.proofs.lemmas.List.{nil_from_length}
 use Rattle.std.proofs.lemmas.Result.{err_from_is_err_and}
 use Rattle.play_script.specs.Lines.{lines_of}
 use Rattle.mtx.specs.Playing.{PlayedUpTo}
-use Rattle.mtx.specs.declared.offline.Stop.{Stop}
-use Rattle.mtx.specs.declared.offline.Stop.TheVariants.{BadLine}
+use Rattle.mtx.specs.declared.plain.Stop.{Stop}
+use Rattle.mtx.specs.declared.plain.Stop.TheVariants.{BadLine}
 use Rattle.play_script.proofs.LineParts.{lines_of-nil}
 use Rattle.mtx.proofs.Progress.{progress_none, progress_more, progress_ends, progress_stops, progress_cut, progress_lines}
-use Rattle.mtx.proofs.offline.play_lines.Goals as goal
+use Rattle.mtx.proofs.plain.play_lines.Goals as goal
 
 pub loop-rest-init : goal.loop-rest-init
 loop-rest-init g c = record { later = omega arith; progress = progress_none c.args.input.now c.new-desk.result (g.K.Sink.held c.args.out.now) c.new-desk.ensures.state; ready = c.new-desk.ensures.ready }

@@ -1,9 +1,9 @@
 use Rattle.std.proofs.Common.{◌≡◌, ℕ, Result, Err, refl, ap}
 use Rattle.play_script.specs.declared.line.LineErr.{LineErr}
 use Rattle.play_script.specs.declared.line.LineErr.TheVariants.{Form, Hex, Number, Memory}
-use Rattle.mtx.specs.declared.offline.Stop.{Stop}
-use Rattle.mtx.specs.declared.offline.Stop.TheVariants.{BadLine}
-use Rattle.mtx.proofs.offline.play_line.Goals as goal
+use Rattle.mtx.specs.declared.plain.Stop.{Stop}
+use Rattle.mtx.specs.declared.plain.Stop.TheVariants.{BadLine}
+use Rattle.mtx.proofs.plain.play_line.Goals as goal
 
 number_is : {X : Type 0} (a b : ℕ) → ◌≡◌ {A = Result X Stop} (Err (BadLine a)) (Err (BadLine b)) → b ≡ a
 number_is a b e = cc

@@ -1,7 +1,7 @@
 use Rattle.std.proofs.Common.{◌≤◌, length}
 use Rattle.play_run.specs.Standing.{IsReady}
 use Rattle.mtx.proofs.Progress.{Progress}
-use Rattle.mtx.proofs.offline.play_lines.Given as goal
+use Rattle.mtx.proofs.plain.play_lines.Given as goal
 
 abbrev pub invariant-loop-rest : goal.invariant-loop-rest
 invariant-loop-rest g l = record {
