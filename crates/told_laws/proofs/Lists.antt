@@ -36,7 +36,8 @@ pub has_map : {A B : Type 0} (f : A → B) (xs : List A) (x : A) → Contains xs
 has_map f [] x h = none_there x h
 has_map f (z ∷ xs) x h =
     elim (has_cases z xs x h) [
-      | inl e ↦ subst (λ (y : _). Contains (map f (z ∷ xs)) (f y)) (sym e) (has_first (f z) (map f xs))
+      | inl e ↦ subst (λ (y : _). Contains (map f (z ∷ xs)) (f y)) (sym e)
+          (has_first (f z) (map f xs))
       | inr k ↦ has_more (f z) (map f xs) (f x) (has_map f xs x k)
     ]
 
@@ -44,7 +45,8 @@ pub map_has : {A B : Type 0} (f : A → B) (xs : List A) (y : B) → Contains (m
     → (x : A) × Contains xs x × (y ≡ f x)
 map_has f xs y h =
     let P = λ (y : _). (x : _) × Contains xs x × (y ≡ f x) in
-    All-contains P (map f xs) y (All-map P f xs (contained (λ x. P (f x)) xs (λ x c. (x, c, refl)))) h
+    All-contains P (map f xs) y (All-map P f xs (contained (λ x. P (f x)) xs (λ x c. (x, c, refl))))
+    h
 
 kept_on : {A : Type 0} (p : A → Bool) (z : A) (xs : List A) (x : A) (b : Bool) → p z ≡ b
     → Contains (filter p xs) x → Contains (filter p (z ∷ xs)) x
@@ -58,15 +60,18 @@ has_filter p (z ∷ xs) x is h =
     elim (has_cases z xs x h) [
       | inl e ↦
           let here : p z ≡ true = ap p (sym e) ∙ is in
-          rw here (subst (λ (y : _). Contains (z ∷ filter p xs) y) (sym e) (has_first z (filter p xs)))
+          rw here (subst (λ (y : _). Contains (z ∷ filter p xs) y) (sym e)
+          (has_first z (filter p xs)))
       | inr k ↦ kept_on p z xs x (p z) refl (has_filter p xs x is k)
     ]
 
 pub filter_has : {A : Type 0} (p : A → Bool) (xs : List A) (x : A) → Contains (filter p xs) x
     → Contains xs x × (p x ≡ true)
 filter_has p xs x h = (
-    All-contains (Contains xs) (filter p xs) x (All-filter p (Contains xs) xs (All-contains_itself xs)) h,
-    All-contains (λ y. p y ≡ true) (filter p xs) x (filter_passes p xs) h)
+  All-contains (Contains xs) (filter p xs) x
+      (All-filter p (Contains xs) xs (All-contains_itself xs)) h,
+  All-contains (λ y. p y ≡ true) (filter p xs) x (filter_passes p xs) h,
+)
 
 -- Lists in order: each element stands so to each later one.
 
@@ -78,13 +83,15 @@ pub order_append : {A : Type 0} (R : A → A → Type 0) (xs ys : List A) → In
     → ((x y : A) → Contains xs x → Contains ys y → R x y) → InOrder R (xs ++ ys)
 order_append R [] ys h k m = k
 order_append R (x ∷ xs) ys h k m = (
-    All-append (R x) xs ys h.0 (contained (R x) ys (λ y c. m x y (has_first x xs) c)),
-    order_append R xs ys h.1 k (λ a b c d. m a b (has_more x xs a c) d))
+  All-append (R x) xs ys h.0 (contained (R x) ys (λ y c. m x y (has_first x xs) c)),
+  order_append R xs ys h.1 k (λ a b c d. m a b (has_more x xs a c) d),
+)
 
 pub order_more : {A : Type 0} (R : A → A → Type 0) (xs : List A) (y : A) → InOrder R xs
     → ((x : A) → Contains xs x → R x y) → InOrder R (xs ++ y ∷ [])
 order_more R xs y h k =
-    order_append R xs (y ∷ []) h (All-nil (R y), tt) (λ a b c d. subst (R a) (sym (only_one y b d)) (k a c))
+    order_append R xs (y ∷ []) h (All-nil (R y), tt)
+    (λ a b c d. subst (R a) (sym (only_one y b d)) (k a c))
 
 pub order_filter : {A : Type 0} (R : A → A → Type 0) (p : A → Bool) (xs : List A) → InOrder R xs
     → InOrder R (filter p xs)
@@ -97,8 +104,9 @@ pub order_map : {A B : Type 0} (R : B → B → Type 0) (S : A → A → Type 0)
     → ((x y : A) → S x y → R (f x) (f y)) → (xs : List A) → InOrder S xs → InOrder R (map f xs)
 order_map R S f m [] h = tt
 order_map R S f m (x ∷ xs) h = (
-    All-map (R (f x)) f xs (All-weaker (S x) (λ y. R (f x) (f y)) (m x) xs h.0),
-    order_map R S f m xs h.1)
+  All-map (R (f x)) f xs (All-weaker (S x) (λ y. R (f x) (f y)) (m x) xs h.0),
+  order_map R S f m xs h.1,
+)
 
 two_by : {A : Type 0} (R : A → A → Type 0) (z : A) (xs : List A) (x y : A) → All (R z) xs
     → (Contains xs x → Contains xs y → (x ≡ y) ⊎ (R x y ⊎ R y x))
@@ -114,7 +122,8 @@ two_by R z xs x y h more (inr e) (inr f) = more e f
 pub order_two : {A : Type 0} (R : A → A → Type 0) (xs : List A) (x y : A) → InOrder R xs
     → Contains xs x → Contains xs y → (x ≡ y) ⊎ (R x y ⊎ R y x)
 order_two R [] x y h a b = none_there x a
-order_two R (z ∷ xs) x y h a b = two_by R z xs x y h.0 (order_two R xs x y h.1) (has_cases z xs x a) (has_cases z xs y b)
+order_two R (z ∷ xs) x y h a b = two_by R z xs x y h.0 (order_two R xs x y h.1) (has_cases z xs x a)
+    (has_cases z xs y b)
 
 pub order_pairs : {A : Type 0} (R : A → A → Type 0) (xs : List A) → InOrder R xs → AllPairs R xs
 order_pairs R [] h = λ i j d a b. absurd (omega (arith, b))
@@ -122,7 +131,8 @@ order_pairs R (x ∷ xs) h = AllPairs-cons R x xs h.0 (order_pairs R xs h.1)
 
 -- A list with one place set.
 
-pub set_cases : {A : Type 0} (xs : List A) (i j : ℕ) (y x : A) → slice_get (slice_set xs i y) j ≡ Some x
+pub set_cases : {A : Type 0} (xs : List A) (i j : ℕ) (y x : A)
+    → slice_get (slice_set xs i y) j ≡ Some x
     → ((j ≡ i) × (x ≡ y)) ⊎ ((j ≡ i → ⊥) × (slice_get xs j ≡ Some x))
 set_cases [] i j y x e = let no : None ≡ Some x = e in grind (arith, no)
 set_cases (a ∷ xs) zero zero y x e = inl (refl, grind arith)

@@ -13,13 +13,19 @@ use Rattle.told_laws.specs.Places.{Rises, IsLater, HasReply}
 use Rattle.told_laws.proofs.Lists.{order_pairs, order_two}
 use Rattle.told_laws.proofs.Running.{all_booked}
 
-pub all_rise : (chunks : Map) (start : Nodes) (run : List Ran) (trace : List Nodes) (now : Nodes) → IsFresh chunks start → IsTrace start run trace now → AllPairs Rises (opened_in start.routers run)
-all_rise chunks start run trace now f h = order_pairs Rises (opened_in start.routers run) (all_booked chunks start run trace now f h).book.lists.order
+pub all_rise : (chunks : Map) (start : Nodes) (run : List Ran) (trace : List Nodes) (now : Nodes)
+    → IsFresh chunks start → IsTrace start run trace now
+    → AllPairs Rises (opened_in start.routers run)
+all_rise chunks start run trace now f h = order_pairs Rises (opened_in start.routers run)
+    (all_booked chunks start run trace now f h).book.lists.order
 
-pub all_once : (chunks : Map) (start : Nodes) (run : List Ran) (trace : List Nodes) (now : Nodes) → IsFresh chunks start → IsTrace start run trace now
-    → (u v : Unanswered) → Contains (opened_in start.routers run) u → Contains (opened_in start.routers run) v → u.tag ≡ v.tag → u.k ≡ v.k → u ≡ v
+pub all_once : (chunks : Map) (start : Nodes) (run : List Ran) (trace : List Nodes) (now : Nodes)
+    → IsFresh chunks start → IsTrace start run trace now
+    → (u v : Unanswered) → Contains (opened_in start.routers run) u
+    → Contains (opened_in start.routers run) v → u.tag ≡ v.tag → u.k ≡ v.k → u ≡ v
 all_once chunks start run trace now f h u v p q tag k =
-    elim (order_two Rises (opened_in start.routers run) u v (all_booked chunks start run trace now f h).book.lists.order p q) [
+    elim (order_two Rises (opened_in start.routers run) u v
+    (all_booked chunks start run trace now f h).book.lists.order p q) [
       | inl e ↦ e
       | inr w ↦
           elim w [
@@ -28,9 +34,16 @@ all_once chunks start run trace now f h u v p q tag k =
           ]
     ]
 
-pub all_behind : (chunks : Map) (start : Nodes) (run : List Ran) (trace : List Nodes) (now : Nodes) → IsFresh chunks start → IsTrace start run trace now
-    → (u v : Unanswered) → Contains (opened_in start.routers run) u → Contains (opened_in start.routers run) v → u.tag ≡ v.tag → u.k < v.k → HasReply (answered_in start.routers run) u
-all_behind chunks start run trace now f h = (all_booked chunks start run trace now f h).book.lists.behind
+pub all_behind : (chunks : Map) (start : Nodes) (run : List Ran) (trace : List Nodes) (now : Nodes)
+    → IsFresh chunks start → IsTrace start run trace now
+    → (u v : Unanswered) → Contains (opened_in start.routers run) u
+    → Contains (opened_in start.routers run) v → u.tag ≡ v.tag → u.k < v.k
+    → HasReply (answered_in start.routers run) u
+all_behind chunks start run trace now f h = (all_booked chunks start run trace now f
+    h).book.lists.behind
 
-pub all_later : (chunks : Map) (start : Nodes) (run : List Ran) (trace : List Nodes) (now : Nodes) → IsFresh chunks start → IsTrace start run trace now → AllPairs IsLater (answered_in start.routers run)
-all_later chunks start run trace now f h = order_pairs IsLater (answered_in start.routers run) (all_booked chunks start run trace now f h).book.lists.later
+pub all_later : (chunks : Map) (start : Nodes) (run : List Ran) (trace : List Nodes) (now : Nodes)
+    → IsFresh chunks start → IsTrace start run trace now
+    → AllPairs IsLater (answered_in start.routers run)
+all_later chunks start run trace now f h = order_pairs IsLater (answered_in start.routers run)
+    (all_booked chunks start run trace now f h).book.lists.later

@@ -1,4 +1,5 @@
--- How a session's transaction goes on where none of its statements is asked or answered: it keeps its tag and the place of
+-- How a session's transaction goes on where none of its statements is asked or answered: it keeps
+-- its tag and the place of
 -- its newest statement, and an unanswered statement stays so, or the transaction is aborted.
 use Rattle.std.proofs.Common.{◌≡◌, ◌&&◌, ℕ, ℤ, Bool, true, false, not, List, [], ◌∷◌, length, nat_eq, int_lt, is_none, Option, Some, None, refl, sym, ap, subst, ◌∙◌, arith}
 use Rattle.txn_types.specs.Order.{same_tag}
@@ -41,7 +42,8 @@ IsOver other = Unit {0}
 
 abbrev pub QuietPhase : Transaction → Transaction → Phase → Type 0
 QuietPhase t v Idle = IsSettled t.phase
-QuietPhase t v (Asking asker op answers) = (t.phase ≡ Asking asker op answers) × (v.waiting ≡ t.waiting)
+QuietPhase t v (Asking asker op answers) = (t.phase ≡ Asking asker op answers) ×
+    (v.waiting ≡ t.waiting)
 QuietPhase t v (Checking asker) = IsSettled t.phase
 QuietPhase t v (Deciding asker) = IsSettled t.phase
 QuietPhase t v Committed = IsSettled t.phase
@@ -104,7 +106,8 @@ pub doing_self : (doing : Doing) → QuietDoing doing doing
 doing_self (Begun t) = quiet_self t
 doing_self (Sought seeking known) = tt
 
-settled_then : (t v : Transaction) (p : Phase) → v.phase ≡ p → IsSettled p → QuietPhase t v p → IsSettled t.phase
+settled_then : (t v : Transaction) (p : Phase) → v.phase ≡ p → IsSettled p → QuietPhase t v p
+    → IsSettled t.phase
 settled_then t v Idle e h k = k
 settled_then t v (Asking asker op answers) e h k = absurd h
 settled_then t v (Checking asker) e h k = k
@@ -135,20 +138,24 @@ doing_then a (Sought seeking known) (Begun w) h k = absurd k
 
 -- Commits leave a transaction over.
 
-decides_by_left : (lsid : Lsid) (number : ℤ) (asker : Option Asker) (t : Transaction) (parts : List (ℕ × ℕ))
+decides_by_left : (lsid : Lsid) (number : ℤ) (asker : Option Asker) (t : Transaction)
+    (parts : List (ℕ × ℕ))
     → LeavesIt t.tag t.k (co.decides_by lsid number asker t parts)
 decides_by_left lsid number asker t [] = record { tag_is = refl; k_is = refl; over = tt }
 decides_by_left lsid number asker t (first ∷ []) = record { tag_is = refl; k_is = refl; over = tt }
-decides_by_left lsid number asker t (first ∷ second ∷ more) = record { tag_is = refl; k_is = refl; over = tt }
+decides_by_left lsid number asker t (first ∷ second ∷ more) = record
+    { tag_is = refl; k_is = refl; over = tt }
 
 decides_left : (lsid : Lsid) (number : ℤ) (asker : Option Asker) (t : Transaction)
     → LeavesIt t.tag t.k (co.decides lsid number asker t)
 decides_left lsid number asker t = decides_by_left lsid number asker t (writers t)
 
-commits_by_left : (lsid : Lsid) (number : ℤ) (asker : Option Asker) (t : Transaction) (parts : List (ℕ × ℕ))
+commits_by_left : (lsid : Lsid) (number : ℤ) (asker : Option Asker) (t : Transaction)
+    (parts : List (ℕ × ℕ))
     → LeavesIt t.tag t.k (co.commits_by lsid number asker t parts)
 commits_by_left lsid number asker t [] = decides_left lsid number asker t
-commits_by_left lsid number asker t (first ∷ more) = record { tag_is = refl; k_is = refl; over = tt }
+commits_by_left lsid number asker t (first ∷ more) = record
+    { tag_is = refl; k_is = refl; over = tt }
 
 pub commits_left : (lsid : Lsid) (number : ℤ) (asker : Option Asker) (t : Transaction)
     → LeavesIt t.tag t.k (co.commits lsid number asker t)
@@ -161,17 +168,22 @@ listens_quiet : (lsid : Lsid) (number : ℤ) (asker : Asker) (t : Transaction) �
     → QuietDeed t (co.listens lsid number asker t)
 listens_quiet lsid number asker t h =
     either (nat_eq (length t.waiting) 0) (QuietDeed t) (co.decides lsid number (Some asker) t) _
-    (settled_doing t (co.decides lsid number (Some asker) t).session.doing h (decides_left lsid number (Some asker) t))
+    (settled_doing t (co.decides lsid number (Some asker) t).session.doing h
+    (decides_left lsid number (Some asker) t))
     (record { tag = refl; k = refl; phase = h })
 
 commit_phase : (lsid : Lsid) (number : ℤ) (asker : Asker) (t : Transaction) (p : Phase)
-    → QuietDeed (record t { phase = p }) (co.commit_asked lsid number asker (record t { phase = p }))
+    → QuietDeed (record t { phase = p }) (co.commit_asked lsid number asker
+    (record t { phase = p }))
 commit_phase lsid number asker t Idle =
     let v : Transaction = record t { phase = Idle } in
-    settled_doing v (co.commits lsid number (Some asker) v).session.doing tt (commits_left lsid number (Some asker) v)
-commit_phase lsid number asker t (Asking other op answers) = quiet_self (record t { phase = Asking other op answers })
+    settled_doing v (co.commits lsid number (Some asker) v).session.doing tt
+    (commits_left lsid number (Some asker) v)
+commit_phase lsid number asker t (Asking other op answers) = quiet_self
+    (record t { phase = Asking other op answers })
 commit_phase lsid number asker t (Checking other) = record { tag = refl; k = refl; phase = tt }
-commit_phase lsid number asker t (Deciding other) = listens_quiet lsid number asker (record t { phase = Deciding other }) tt
+commit_phase lsid number asker t (Deciding other) = listens_quiet lsid number asker
+    (record t { phase = Deciding other }) tt
 commit_phase lsid number asker t Committed = record { tag = refl; k = refl; phase = tt }
 commit_phase lsid number asker t Released = record { tag = refl; k = refl; phase = tt }
 commit_phase lsid number asker t (Aborted sent) = quiet_self (record t { phase = Aborted sent })
@@ -182,61 +194,83 @@ commit_asked_quiet lsid number asker t = commit_phase lsid number asker t t.phas
 
 -- Outcomes.
 
-released_quiet : (lsid : Lsid) (number : ℤ) (asker : Option Asker) (t : Transaction) (posts : List Post) → IsSettled t.phase
+released_quiet : (lsid : Lsid) (number : ℤ) (asker : Option Asker) (t : Transaction)
+    (posts : List Post) → IsSettled t.phase
     → IsOver t.phase → QuietDeed t (co.released lsid number asker t posts)
 released_quiet lsid number asker t [] h k =
-    settled_doing t (co.decides lsid number asker t).session.doing h (decides_left lsid number asker t)
+    settled_doing t (co.decides lsid number asker t).session.doing h
+    (decides_left lsid number asker t)
 released_quiet lsid number asker t (post ∷ posts) h k =
-    settled_doing t (Begun (record t { waiting = post ∷ posts })) h (record { tag_is = refl; k_is = refl; over = k })
+    settled_doing t (Begun (record t { waiting = post ∷ posts })) h
+    (record { tag_is = refl; k_is = refl; over = k })
 
-checked_told : (lsid : Lsid) (number : ℤ) (asker : Option Asker) (o : Outcome) (t : Transaction) (x : Told) → IsSettled t.phase
+checked_told : (lsid : Lsid) (number : ℤ) (asker : Option Asker) (o : Outcome) (t : Transaction)
+    (x : Told) → IsSettled t.phase
     → IsOver t.phase → QuietDeed t (co.checked lsid number asker (record o { told = x }) t)
-checked_told lsid number asker o t told_as.Released h k = released_quiet lsid number asker t (without o.shard t.waiting) h k
-checked_told lsid number asker o t (told_as.Committed at) h k = record { tag = refl; k = refl; phase = h }
-checked_told lsid number asker o t (told_as.Aborted cause) h k = record { tag = refl; k = refl; phase = tt }
-checked_told lsid number asker o t (told_as.TooOld have) h k = record { tag = refl; k = refl; phase = tt }
+checked_told lsid number asker o t told_as.Released h k = released_quiet lsid number asker t
+    (without o.shard t.waiting) h k
+checked_told lsid number asker o t (told_as.Committed at) h k = record
+    { tag = refl; k = refl; phase = h }
+checked_told lsid number asker o t (told_as.Aborted cause) h k = record
+    { tag = refl; k = refl; phase = tt }
+checked_told lsid number asker o t (told_as.TooOld have) h k = record
+    { tag = refl; k = refl; phase = tt }
 checked_told lsid number asker o t told_as.NoTrace h k = record { tag = refl; k = refl; phase = tt }
 
-decided_told : (lsid : Lsid) (number : ℤ) (asker : Option Asker) (o : Outcome) (t : Transaction) (x : Told) → IsSettled t.phase
+decided_told : (lsid : Lsid) (number : ℤ) (asker : Option Asker) (o : Outcome) (t : Transaction)
+    (x : Told) → IsSettled t.phase
     → QuietDeed t (co.decided lsid number asker (record o { told = x }) t)
 decided_told lsid number asker o t told_as.Released h = record { tag = refl; k = refl; phase = h }
-decided_told lsid number asker o t (told_as.Committed at) h = record { tag = refl; k = refl; phase = h }
-decided_told lsid number asker o t (told_as.Aborted cause) h = record { tag = refl; k = refl; phase = tt }
-decided_told lsid number asker o t (told_as.TooOld have) h = record { tag = refl; k = refl; phase = h }
+decided_told lsid number asker o t (told_as.Committed at) h = record
+    { tag = refl; k = refl; phase = h }
+decided_told lsid number asker o t (told_as.Aborted cause) h = record
+    { tag = refl; k = refl; phase = tt }
+decided_told lsid number asker o t (told_as.TooOld have) h = record
+    { tag = refl; k = refl; phase = h }
 decided_told lsid number asker o t told_as.NoTrace h = record { tag = refl; k = refl; phase = h }
 
 counted_phase : (lsid : Lsid) (number : ℤ) (o : Outcome) (t : Transaction) (p : Phase)
     → QuietDeed (record t { phase = p }) (co.counted lsid number o (record t { phase = p }))
-counted_phase lsid number o t (Checking asker) = checked_told lsid number asker o (record t { phase = Checking asker }) o.told tt tt
-counted_phase lsid number o t (Deciding asker) = decided_told lsid number asker o (record t { phase = Deciding asker }) o.told tt
+counted_phase lsid number o t (Checking asker) = checked_told lsid number asker o
+    (record t { phase = Checking asker }) o.told tt tt
+counted_phase lsid number o t (Deciding asker) = decided_told lsid number asker o
+    (record t { phase = Deciding asker }) o.told tt
 counted_phase lsid number o t Idle = quiet_self (record t { phase = Idle })
-counted_phase lsid number o t (Asking asker op answers) = quiet_self (record t { phase = Asking asker op answers })
+counted_phase lsid number o t (Asking asker op answers) = quiet_self
+    (record t { phase = Asking asker op answers })
 counted_phase lsid number o t Committed = quiet_self (record t { phase = Committed })
 counted_phase lsid number o t Released = quiet_self (record t { phase = Released })
 counted_phase lsid number o t (Aborted sent) = quiet_self (record t { phase = Aborted sent })
 
-on_outcome_quiet : (lsid : Lsid) (number : ℤ) (o : Outcome) (t : Transaction) → QuietDeed t (co.on_outcome lsid number o t)
+on_outcome_quiet : (lsid : Lsid) (number : ℤ) (o : Outcome) (t : Transaction)
+    → QuietDeed t (co.on_outcome lsid number o t)
 on_outcome_quiet lsid number o t =
-    either (same_tag t.tag o.tag && is_waited o.shard t.waiting) (QuietDeed t) _ _ (counted_phase lsid number o t t.phase) (quiet_self t)
+    either (same_tag t.tag o.tag && is_waited o.shard t.waiting) (QuietDeed t) _ _
+    (counted_phase lsid number o t t.phase) (quiet_self t)
 
-recovered_quiet : (number : ℤ) (seeking : Option Seeking) (known : List Tag) (o : Outcome) (old : Doing)
+recovered_quiet : (number : ℤ) (seeking : Option Seeking) (known : List Tag) (o : Outcome)
+    (old : Doing)
     → QuietDoing old (tk.on_recovered number seeking known o).session.doing
 recovered_quiet number None known o old = tt
 recovered_quiet number (Some k) known o old =
-    either (same_tag k.tag o.tag && nat_eq k.shard o.shard) (λ (d : Deed). QuietDoing old d.session.doing) _ _ tt tt
+    either (same_tag k.tag o.tag && nat_eq k.shard o.shard)
+    (λ (d : Deed). QuietDoing old d.session.doing) _ _ tt tt
 
 pub ended_quiet : (o : Outcome) (lsid : Lsid) (number : ℤ) (doing : Doing)
     → QuietDoing doing (ended_in o lsid (record { number = number; doing = doing })).session.doing
 ended_quiet o lsid number (Begun t) = on_outcome_quiet lsid number o t
-ended_quiet o lsid number (Sought seeking known) = recovered_quiet number seeking known o (Sought seeking known)
+ended_quiet o lsid number (Sought seeking known) = recovered_quiet number seeking known o
+    (Sought seeking known)
 
 -- Ends.
 
 client_phase : (lsid : Lsid) (number : ℤ) (asker : Asker) (t : Transaction) (p : Phase)
-    → QuietDeed (record t { phase = p }) (en.client_aborts lsid number asker (record t { phase = p }))
+    → QuietDeed (record t { phase = p }) (en.client_aborts lsid number asker
+    (record t { phase = p }))
 client_phase lsid number asker t (Aborted sent) = quiet_self (record t { phase = Aborted sent })
 client_phase lsid number asker t Idle = record { tag = refl; k = refl; phase = tt }
-client_phase lsid number asker t (Asking other op answers) = record { tag = refl; k = refl; phase = tt }
+client_phase lsid number asker t (Asking other op answers) = record
+    { tag = refl; k = refl; phase = tt }
 client_phase lsid number asker t (Checking other) = record { tag = refl; k = refl; phase = tt }
 client_phase lsid number asker t (Deciding other) = record { tag = refl; k = refl; phase = tt }
 client_phase lsid number asker t Committed = record { tag = refl; k = refl; phase = tt }
@@ -247,9 +281,13 @@ pub client_aborts_quiet : (lsid : Lsid) (number : ℤ) (asker : Asker) (t : Tran
 client_aborts_quiet lsid number asker t = client_phase lsid number asker t t.phase
 
 pub session_quiet : (lsid : Lsid) (number : ℤ) (doing : Doing)
-    → QuietDoing doing (en.ends_session lsid (record { number = number; doing = doing })).session.doing
+    → QuietDoing doing (en.ends_session lsid (record {
+      number = number;
+      doing = doing;
+    })).session.doing
 session_quiet lsid number (Begun t) =
-    either (is_none (asker_of (Begun t)) && not (commit_sent t.phase)) (QuietDeed t) (en.ends lsid number 2 t) _
+    either (is_none (asker_of (Begun t)) && not (commit_sent t.phase)) (QuietDeed t)
+    (en.ends lsid number 2 t) _
     (record { tag = refl; k = refl; phase = tt }) (quiet_self t)
 session_quiet lsid number (Sought seeking known) = tt
 
@@ -270,8 +308,10 @@ abbrev GoneDeed : ℕ → Transaction → Deed → Type 0
 GoneDeed conn t d = GoneDoing conn (Begun t) d.session.doing
 
 gone_phase : (conn : ℕ) (lsid : Lsid) (number : ℤ) (t : Transaction) (p : Phase)
-    → GoneDeed conn (record t { phase = p }) (en.gone_asking conn lsid (record { number = number; doing = Begun (record t { phase = p }) }) (record t { phase = p }))
-gone_phase conn lsid number t (Asking asker op answers) = (record { tag = refl; k = refl; phase = tt }, tt)
+    → GoneDeed conn (record t { phase = p }) (en.gone_asking conn lsid
+    (record { number = number; doing = Begun (record t { phase = p }) }) (record t { phase = p }))
+gone_phase conn lsid number t (Asking asker op answers) =
+    (record { tag = refl; k = refl; phase = tt }, tt)
 gone_phase conn lsid number t (Checking asker) = (record { tag = refl; k = refl; phase = tt }, tt)
 gone_phase conn lsid number t (Deciding asker) = (record { tag = refl; k = refl; phase = tt }, tt)
 gone_phase conn lsid number t Idle = (quiet_self (record t { phase = Idle }), tt)
@@ -280,11 +320,15 @@ gone_phase conn lsid number t Released = (quiet_self (record t { phase = Release
 gone_phase conn lsid number t (Aborted sent) = (quiet_self (record t { phase = Aborted sent }), tt)
 
 gone_doing : (conn : ℕ) (lsid : Lsid) (number : ℤ) (doing : Doing)
-    → GoneDoing conn doing (en.gone_in conn lsid (record { number = number; doing = doing })).session.doing
+    → GoneDoing conn doing (en.gone_in conn lsid (record {
+      number = number;
+      doing = doing;
+    })).session.doing
 gone_doing conn lsid number (Begun t) = gone_phase conn lsid number t t.phase
 gone_doing conn lsid number (Sought seeking known) = (tt, tt)
 
-not_from : (conn : ℕ) (t : Transaction) (p : Phase) → is_from conn (asker_of (Begun (record t { phase = p }))) ≡ false → NotFrom conn p
+not_from : (conn : ℕ) (t : Transaction) (p : Phase)
+    → is_from conn (asker_of (Begun (record t { phase = p }))) ≡ false → NotFrom conn p
 not_from conn t (Asking asker op answers) e = e
 not_from conn t Idle e = tt
 not_from conn t (Checking asker) e = tt
@@ -293,35 +337,45 @@ not_from conn t Committed e = tt
 not_from conn t Released e = tt
 not_from conn t (Aborted sent) e = tt
 
-doing_not_from : (conn : ℕ) (doing : Doing) → is_from conn (asker_of doing) ≡ false → DoingNotFrom conn doing
+doing_not_from : (conn : ℕ) (doing : Doing) → is_from conn (asker_of doing) ≡ false
+    → DoingNotFrom conn doing
 doing_not_from conn (Begun t) e = not_from conn t t.phase e
 doing_not_from conn (Sought seeking known) e = tt
 
-gone_case : (conn : ℕ) (lsid : Lsid) (s : Session) (test : Bool) → is_from conn (asker_of s.doing) ≡ test
+gone_case : (conn : ℕ) (lsid : Lsid) (s : Session) (test : Bool)
+    → is_from conn (asker_of s.doing) ≡ test
     → GoneDoing conn s.doing (en.gone_from conn lsid s).session.doing
 gone_case conn lsid s true e = rw e (gone_doing conn lsid s.number s.doing)
 gone_case conn lsid s false e = rw e (doing_self s.doing, doing_not_from conn s.doing e)
 
-pub gone_quiet : (conn : ℕ) (lsid : Lsid) (s : Session) → GoneDoing conn s.doing (en.gone_from conn lsid s).session.doing
+pub gone_quiet : (conn : ℕ) (lsid : Lsid) (s : Session)
+    → GoneDoing conn s.doing (en.gone_from conn lsid s).session.doing
 gone_quiet conn lsid s = gone_case conn lsid s (is_from conn (asker_of s.doing)) refl
 
 -- Tokens.
 
-seeks_in_quiet : (lsid : Lsid) (number : ℤ) (asker : Asker) (k : Seeking) (seeking : Option Seeking) (known : List Tag) (old : Doing)
+seeks_in_quiet : (lsid : Lsid) (number : ℤ) (asker : Asker) (k : Seeking) (seeking : Option Seeking)
+    (known : List Tag) (old : Doing)
     → QuietDoing old (tk.seeks_in lsid number asker k seeking known).session.doing
 seeks_in_quiet lsid number asker k seeking known old =
-    either (tk.is_known k.tag known) (λ (d : Deed). QuietDoing old d.session.doing) _ _ tt (asks_for seeking)
+    either (tk.is_known k.tag known) (λ (d : Deed). QuietDoing old d.session.doing) _ _ tt
+    (asks_for seeking)
   where
-    asks_for : (older : Option Seeking) → QuietDoing old (tk.asks_for lsid number k older known).session.doing
+    asks_for : (older : Option Seeking) → QuietDoing old (tk.asks_for lsid number k older
+        known).session.doing
     asks_for None = tt
-    asks_for (Some older) = either (tk.same_place older k) (λ (d : Deed). QuietDoing old d.session.doing) _ _ tt tt
+    asks_for (Some older) = either (tk.same_place older k)
+        (λ (d : Deed). QuietDoing old d.session.doing) _ _ tt tt
 
 seeks_doing : (lsid : Lsid) (number own : ℤ) (asker : Asker) (k : Seeking) (doing : Doing)
-    → QuietDoing doing (tk.seeks_by lsid number asker k (Some (record { number = own; doing = doing }))).session.doing
+    → QuietDoing doing (tk.seeks_by lsid number asker k (Some
+    (record { number = own; doing = doing }))).session.doing
 seeks_doing lsid number own asker k (Begun t) =
-    either (int_lt own number) (λ (d : Deed). QuietDoing (Begun t) d.session.doing) _ _ tt (quiet_self t)
+    either (int_lt own number) (λ (d : Deed). QuietDoing (Begun t) d.session.doing) _ _ tt
+    (quiet_self t)
 seeks_doing lsid number own asker k (Sought seeking known) =
-    either (int_lt own number) (λ (d : Deed). QuietDoing (Sought seeking known) d.session.doing) _ _ tt
+    either (int_lt own number) (λ (d : Deed). QuietDoing (Sought seeking known) d.session.doing) _ _
+    tt
     (seeks_in_quiet lsid number asker k seeking known (Sought seeking known))
 
 pub seeks_quiet : (lsid : Lsid) (number : ℤ) (asker : Asker) (k : Seeking) (s : Session)

@@ -51,39 +51,54 @@ ok_is x y e = cc
 abbrev HasId : InsertItem → Type 0
 HasId item = is_some (id_in item.doc) ≡ true
 
-item_id : (place : ℕ) (doc : Document) (item : InsertItem) → insert_item place doc ≡ Ok item → HasId item
+item_id : (place : ℕ) (doc : Document) (item : InsertItem) → insert_item place doc ≡ Ok item
+    → HasId item
 item_id place doc item e = by (is_some (id_in doc)) refl e
   where
-    by : (b : Bool) → is_some (id_in doc) ≡ b → cond b (Ok (record { index = place; doc = doc })) (Err (Missing id_name)) ≡ Ok item → HasId item
+    by : (b : Bool) → is_some (id_in doc) ≡ b
+        → cond b (Ok (record { index = place; doc = doc })) (Err (Missing id_name)) ≡ Ok item
+        → HasId item
     by true is e = subst HasId (ok_is (record { index = place; doc = doc }) item e) is
     by false is e = absurd cc
 
-each_ids : (first : ℕ) (docs : List Document) (items : List InsertItem) → each_at insert_item first docs ≡ Ok items → All HasId items
-each_ids first [] items e = subst (All HasId) (ok_is {A = List InsertItem} [] items e) (All-nil HasId)
+each_ids : (first : ℕ) (docs : List Document) (items : List InsertItem)
+    → each_at insert_item first docs ≡ Ok items → All HasId items
+each_ids first [] items e = subst (All HasId) (ok_is {A = List InsertItem} [] items e)
+    (All-nil HasId)
 each_ids first (doc ∷ docs) items e =
-    let one = bind_ok (insert_item first doc) (λ y. with_front (y ∷ []) (each_at insert_item (first + 1) docs)) items e in
-    let more = bind_ok (each_at insert_item (first + 1) docs) (λ zs. Ok (one.0 ∷ [] ++ zs)) items one.2 in
+    let one = bind_ok (insert_item first doc)
+    (λ y. with_front (y ∷ []) (each_at insert_item (first + 1) docs)) items e in
+    let more = bind_ok (each_at insert_item (first + 1) docs) (λ zs. Ok (one.0 ∷ [] ++ zs)) items
+    one.2 in
     subst (All HasId) (ok_is {A = List InsertItem} (one.0 ∷ more.0) items more.2)
-    (All-cons HasId one.0 more.0 (item_id first doc one.0 one.1) (each_ids (first + 1) docs more.0 more.1))
+    (All-cons HasId one.0 more.0 (item_id first doc one.0 one.1)
+    (each_ids (first + 1) docs more.0 more.1))
 
-find_ids : (ns : List ℕ) (f : Result Filter CrudErr) (d : Result Bool CrudErr) (l : Result ℕ CrudErr) (o : Op)
-    → (f >>= λ filter. d >>= λ down. l >>= λ limit. Ok (op.Find ns filter down limit)) ≡ Ok o → HaveIds o
+find_ids : (ns : List ℕ) (f : Result Filter CrudErr) (d : Result Bool CrudErr)
+    (l : Result ℕ CrudErr) (o : Op)
+    → (f >>= λ filter. d >>= λ down. l >>= λ limit. Ok (op.Find ns filter down limit)) ≡ Ok o
+    → HaveIds o
 find_ids ns (Ok f) (Ok d) (Ok l) o e = subst HaveIds (ok_is (op.Find ns f d l) o e) tt
 find_ids ns (Ok f) (Ok d) (Err x) o e = absurd cc
 find_ids ns (Ok f) (Err x) l o e = absurd cc
 find_ids ns (Err x) d l o e = absurd cc
 
-built_ids : (s : Statement) (ns : List ℕ) (frame : Frame) (o : Op) → built s ns frame ≡ Ok o → HaveIds o
+built_ids : (s : Statement) (ns : List ℕ) (frame : Frame) (o : Op) → built s ns frame ≡ Ok o
+    → HaveIds o
 built_ids statement.Insert ns frame o e =
-    let items = bind_ok (batch_under Documents frame >>= each_at insert_item 0) (λ docs. Ok (op.Insert ns docs)) o e in
+    let items = bind_ok (batch_under Documents frame >>= each_at insert_item 0)
+    (λ docs. Ok (op.Insert ns docs)) o e in
     let docs = bind_ok (batch_under Documents frame) (each_at insert_item 0) items.0 items.1 in
     subst HaveIds (ok_is (op.Insert ns items.0) o items.2) (each_ids 0 docs.0 items.0 docs.2)
-built_ids statement.Find ns frame o e = find_ids ns (filter_under frame.body) (falls_under frame.body) (limit_under frame.body) o e
+built_ids statement.Find ns frame o e = find_ids ns (filter_under frame.body)
+    (falls_under frame.body) (limit_under frame.body) o e
 built_ids statement.Update ns frame o e =
-    let items = bind_ok (batch_under (Changes change.Update) frame >>= each_at update_item 0) (λ docs. Ok (op.Update ns docs)) o e in
+    let items = bind_ok (batch_under (Changes change.Update) frame >>= each_at update_item 0)
+    (λ docs. Ok (op.Update ns docs)) o e in
     subst HaveIds (ok_is (op.Update ns items.0) o items.2) tt
 built_ids statement.Delete ns frame o e =
-    let items = bind_ok (batch_under (Changes change.Delete) frame >>= each_at delete_item 0) (λ docs. Ok (op.Delete ns docs)) o e in
+    let items = bind_ok (batch_under (Changes change.Delete) frame >>= each_at delete_item 0)
+    (λ docs. Ok (op.Delete ns docs)) o e in
     subst HaveIds (ok_is (op.Delete ns items.0) o items.2) tt
 
 have_ids : (s : Statement) (frame : Frame) (o : Op) → op_of s frame ≡ Ok o → HaveIds o
@@ -95,7 +110,8 @@ have_ids s frame o e =
 
 -- Requests.
 
-cmd_bind : {A B : Type 0} (r : Result A CmdErr) (f : A → Result B CmdErr) (y : B) → cmd.◌>>=◌ r f ≡ Ok y → (x : A) × (r ≡ Ok x) × (f x ≡ Ok y)
+cmd_bind : {A B : Type 0} (r : Result A CmdErr) (f : A → Result B CmdErr) (y : B)
+    → cmd.◌>>=◌ r f ≡ Ok y → (x : A) × (r ≡ Ok x) × (f x ≡ Ok y)
 cmd_bind (Ok x) f y e = (x, refl, e)
 cmd_bind (Err d) f y e = absurd cc
 
@@ -115,17 +131,27 @@ abbrev IdsIn : Option Op → Type 0
 IdsIn None = Unit {0}
 IdsIn (Some o) = HaveIds o
 
-by_ids : (c : Command) (frame : Frame) (r : Request) → cmd.request_by c frame ≡ Ok r → IdsIn (op_in r)
-by_ids command.Ping frame r e = let x = cmd_bind (cmd.as_command (checked command.Ping frame)) _ r e in subst (λ (q : Request). IdsIn (op_in q)) (cmd_is _ r x.2) tt
-by_ids (command.Hello old_name) frame r e = let x = cmd_bind (cmd.as_command (checked (command.Hello old_name) frame)) _ r e in subst (λ (q : Request). IdsIn (op_in q)) (cmd_is _ r x.2) tt
+by_ids : (c : Command) (frame : Frame) (r : Request) → cmd.request_by c frame ≡ Ok r
+    → IdsIn (op_in r)
+by_ids command.Ping frame r e = let x = cmd_bind (cmd.as_command (checked command.Ping frame)) _ r
+    e in subst (λ (q : Request). IdsIn (op_in q)) (cmd_is _ r x.2) tt
+by_ids (command.Hello old_name) frame r e = let x = cmd_bind
+    (cmd.as_command (checked (command.Hello old_name) frame)) _ r e in subst
+    (λ (q : Request). IdsIn (op_in q)) (cmd_is _ r x.2) tt
 by_ids (command.Statement s) frame r e =
     let x = cmd_bind (cmd.as_command (op_of s frame)) _ r e in
-    subst (λ (q : Request). IdsIn (op_in q)) (cmd_is _ r x.2) (have_ids s frame x.0 (as_ok (op_of s frame) x.0 x.1))
-by_ids command.Commit frame r e = let x = cmd_bind (cmd.as_command (checked command.Commit frame)) _ r e in subst (λ (q : Request). IdsIn (op_in q)) (cmd_is _ r x.2) tt
-by_ids command.Abort frame r e = let x = cmd_bind (cmd.as_command (checked command.Abort frame)) _ r e in subst (λ (q : Request). IdsIn (op_in q)) (cmd_is _ r x.2) tt
-by_ids command.EndSessions frame r e = let x = cmd_bind (cmd.as_command (checked command.EndSessions frame)) _ r e in subst (λ (q : Request). IdsIn (op_in q)) (cmd_is _ r x.2) tt
+    subst (λ (q : Request). IdsIn (op_in q)) (cmd_is _ r x.2)
+    (have_ids s frame x.0 (as_ok (op_of s frame) x.0 x.1))
+by_ids command.Commit frame r e = let x = cmd_bind (cmd.as_command (checked command.Commit frame)) _
+    r e in subst (λ (q : Request). IdsIn (op_in q)) (cmd_is _ r x.2) tt
+by_ids command.Abort frame r e = let x = cmd_bind (cmd.as_command (checked command.Abort frame)) _ r
+    e in subst (λ (q : Request). IdsIn (op_in q)) (cmd_is _ r x.2) tt
+by_ids command.EndSessions frame r e = let x = cmd_bind
+    (cmd.as_command (checked command.EndSessions frame)) _ r e in subst
+    (λ (q : Request). IdsIn (op_in q)) (cmd_is _ r x.2) tt
 
-request_ids : (wall : ℕ) (frame : Frame) (r : Request) → cmd.request_of wall frame ≡ Ok r → IdsIn (op_in r)
+request_ids : (wall : ℕ) (frame : Frame) (r : Request) → cmd.request_of wall frame ≡ Ok r
+    → IdsIn (op_in r)
 unfolding cmd.request_of
 request_ids wall frame r e =
     let a = cmd_bind (cmd.command_in frame) _ r e in
@@ -142,11 +168,14 @@ asked_case (Ok q) r e = let same : q ≡ r = un_is q r e in ap (λ (y : Request)
     un_is x y e = cc
 asked_case (Err d) r e = absurd cc
 
-read_case : (wall : ℕ) (x : Result Frame FrameErr) (r : Request) → messages.read_by wall x ≡ Ok r → IdsIn (op_in r)
-read_case wall (Ok frame) r e = request_ids wall frame r (asked_case (cmd.request_of wall frame) r e)
+read_case : (wall : ℕ) (x : Result Frame FrameErr) (r : Request) → messages.read_by wall x ≡ Ok r
+    → IdsIn (op_in r)
+read_case wall (Ok frame) r e = request_ids wall frame r
+    (asked_case (cmd.request_of wall frame) r e)
 read_case wall (Err d) r e = absurd cc
 
-pub asked_ids : (wall : ℕ) (bytes : List ℕ) (r : Request) → messages.asked_in wall bytes ≡ Ok r → IdsIn (op_in r)
+pub asked_ids : (wall : ℕ) (bytes : List ℕ) (r : Request) → messages.asked_in wall bytes ≡ Ok r
+    → IdsIn (op_in r)
 unfolding messages.asked_in
 asked_ids wall bytes r e = read_case wall (frame_of bytes) r e
 
@@ -159,13 +188,16 @@ abbrev AskedIds : Option Asked → Type 0
 AskedIds None = Unit {0}
 AskedIds (Some asked) = IdsIn (op_in asked.1)
 
-taken_ids : (conn : ℕ) (x : Result Request Unserved) → ((r : Request) → x ≡ Ok r → IdsIn (op_in r)) → AskedIds (asked_by conn x)
+taken_ids : (conn : ℕ) (x : Result Request Unserved) → ((r : Request) → x ≡ Ok r → IdsIn (op_in r))
+    → AskedIds (asked_by conn x)
 taken_ids conn (Ok r) h = h r refl
 taken_ids conn (Err why) h = tt
 
-client_ids : (conn : ℕ) (test : Bool) (wall : ℕ) (bytes : List ℕ) → AskedIds (if test then None else asked_by conn (messages.asked_in wall bytes))
+client_ids : (conn : ℕ) (test : Bool) (wall : ℕ) (bytes : List ℕ)
+    → AskedIds (if test then None else asked_by conn (messages.asked_in wall bytes))
 client_ids conn true wall bytes = tt
-client_ids conn false wall bytes = taken_ids conn (messages.asked_in wall bytes) (asked_ids wall bytes)
+client_ids conn false wall bytes = taken_ids conn (messages.asked_in wall bytes)
+    (asked_ids wall bytes)
 
 at_ids : (r : RouterState) (wall : ℕ) (w : Happening) → AskedIds (asked_at r wall w)
 at_ids r wall (what.Client conn bytes) = client_ids conn (is_waiting r conn) wall bytes
@@ -174,26 +206,33 @@ at_ids r wall (what.Deliver e) = tt
 at_ids r wall what.Resend = tt
 at_ids r wall what.Moment = tt
 
-unless_memory : (test : Bool) (asked : Option Asked) → AskedIds asked → AskedIds (if test then None else asked)
+unless_memory : (test : Bool) (asked : Option Asked) → AskedIds asked
+    → AskedIds (if test then None else asked)
 unless_memory true asked h = tt
 unless_memory false asked h = h
 
-parts_ids : (n conn : ℕ) (o : Op) (parts : List (ℕ × Sent)) → HaveIds o → All OpenIds (opened_parts n conn o parts)
+parts_ids : (n conn : ℕ) (o : Op) (parts : List (ℕ × Sent)) → HaveIds o
+    → All OpenIds (opened_parts n conn o parts)
 parts_ids n conn o [] h = All-nil OpenIds
 parts_ids n conn o (part ∷ parts) h = All-cons OpenIds _ [] h (All-nil OpenIds)
 
-opens_ids : (n : ℕ) (asked : Option Asked) (a : NodeAnswer) → AskedIds asked → All OpenIds (opened n asked a)
+opens_ids : (n : ℕ) (asked : Option Asked) (a : NodeAnswer) → AskedIds asked
+    → All OpenIds (opened n asked a)
 opens_ids n None a h = All-nil OpenIds
 opens_ids n (Some (conn, request.Ping more time)) a h = All-nil OpenIds
 opens_ids n (Some (conn, request.Hello old_name more time)) a h = All-nil OpenIds
-opens_ids n (Some (conn, request.Statement o txn at after more time)) a h = parts_ids n conn o (statements_in a) h
+opens_ids n (Some (conn, request.Statement o txn at after more time)) a h = parts_ids n conn o
+    (statements_in a) h
 opens_ids n (Some (conn, request.Commit txn t more time)) a h = All-nil OpenIds
 opens_ids n (Some (conn, request.Abort txn more time)) a h = All-nil OpenIds
 opens_ids n (Some (conn, request.EndSessions ids more time)) a h = All-nil OpenIds
 
-step_ids : (n : ℕ) (r : Option RouterState) (e : NodeEvent) (a : NodeAnswer) → All OpenIds (opened_at n r e a)
+step_ids : (n : ℕ) (r : Option RouterState) (e : NodeEvent) (a : NodeAnswer)
+    → All OpenIds (opened_at n r e a)
 step_ids n None e a = All-nil OpenIds
-step_ids n (Some r) e a = opens_ids n (request_at r e a) a (unless_memory (is_memory a) (asked_at r (max r.wall e.wall) e.what) (at_ids r (max r.wall e.wall) e.what))
+step_ids n (Some r) e a = opens_ids n (request_at r e a) a
+    (unless_memory (is_memory a) (asked_at r (max r.wall e.wall) e.what)
+    (at_ids r (max r.wall e.wall) e.what))
 
 ran_ids : (l : Ledger) (ran : Ran) → All OpenIds (opened_by l ran)
 ran_ids l (Step (Router n) e a faults) = step_ids n (slice_get l.routers n) e a
@@ -203,4 +242,6 @@ ran_ids l (Swapped (Shard n)) = All-nil OpenIds
 
 pub all_have_ids : (l : Ledger) (run : List Ran) → All (λ u. HaveIds u.op) (opened_from l run)
 all_have_ids l [] = All-nil OpenIds
-all_have_ids l (ran ∷ run) = All-append OpenIds (opened_by l ran) (opened_from (entered_by l ran).ledger run) (ran_ids l ran) (all_have_ids (entered_by l ran).ledger run)
+all_have_ids l (ran ∷ run) = All-append OpenIds (opened_by l ran)
+    (opened_from (entered_by l ran).ledger run) (ran_ids l ran)
+    (all_have_ids (entered_by l ran).ledger run)
