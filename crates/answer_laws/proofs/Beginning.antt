@@ -64,7 +64,7 @@ use Rattle.answer_laws.proofs.Going.{first_is, rest_is, some_same, all_self, all
 
 -- What refusals leave.
 
-first_none : (o : Option Reply) (os : List (Option Reply)) → first_some (o ∷ os) ≡ None → (o ≡ None) × (first_some os ≡ None)
+pub first_none : (o : Option Reply) (os : List (Option Reply)) → first_some (o ∷ os) ≡ None → (o ≡ None) × (first_some os ≡ None)
 first_none None os h = (refl, h)
 first_none (Some r) os h = grind arith
 
@@ -75,7 +75,7 @@ four_none a b c d os h =
     let z = first_none c (d ∷ os) y.1 in
     (x.0, z.0, (first_none d os z.1).0)
 
-so_not : (b : Bool) (why : Refusal) → where_so b why ≡ None → b ≡ false
+pub so_not : (b : Bool) (why : Refusal) → where_so b why ≡ None → b ≡ false
 so_not true why h = grind arith
 so_not false why h = refl
 
@@ -153,7 +153,7 @@ pub record IsBegun (session : Option Session) (number : ℤ) (t : Transaction) :
   pub number_is : there.number ≡ number
   pub doing : there.doing ≡ Begun t
 
-is_begun : (session : Option Session) (number : ℤ) (t : Transaction) → begun_in session number ≡ Some t → IsBegun session number t
+pub is_begun : (session : Option Session) (number : ℤ) (t : Transaction) → begun_in session number ≡ Some t → IsBegun session number t
 is_begun None number t e = grind arith
 is_begun (Some s) number t e = let b = begun_doing s.number number s.doing t e in record { there = s; is = refl; number_is = b.0; doing = b.1 }
 
@@ -395,7 +395,7 @@ step_names Q false r e p h =
 
 -- What a statement asks.
 
-leaves_fit : (Q : ℕ → Statement → Type 0) (lsid : Lsid) (s : Option Session) → AllFit Q (rq.left_of lsid s)
+pub leaves_fit : (Q : ℕ → Statement → Type 0) (lsid : Lsid) (s : Option Session) → AllFit Q (rq.left_of lsid s)
 leaves_fit Q lsid None = All-nil (PostFits Q)
 leaves_fit Q lsid (Some s) = leaves_any Q lsid s
 

@@ -1,10 +1,10 @@
-mod Lists
+pub mod Lists
 mod Answered
-mod Fits
+pub mod Fits
 mod Deeds
-mod Going
-mod Beginning
+pub mod Going
+pub mod Beginning
 mod Shards
-mod Sending
+pub mod Sending
 mod Running
 mod One

@@ -37,28 +37,28 @@ use Rattle.answer_laws.proofs.Beginning.{MayAsk, statement_asks}
 
 -- The statements among what goes out.
 
-abbrev parts_from : NodeId → ℕ → List Post → List (ℕ × Statement)
+abbrev pub parts_from : NodeId → ℕ → List Post → List (ℕ × Statement)
 parts_from from time posts = filter_map statement_in (map (sent_by from time) (map letter_of posts))
 
 none_in : (from : NodeId) (time shard : ℕ) (m : Msg) → MsgFits NoStatement shard m → statement_in (sent_by from time (letter_of (shard, m))) ≡ None
 none_in from time shard (msg.Statement m) h = absurd h
 none_in from time shard other h = refl
 
-skipped : (from : NodeId) (time : ℕ) (others posts : List Post) → AllFit NoStatement others → parts_from from time (others ++ posts) ≡ parts_from from time posts
+pub skipped : (from : NodeId) (time : ℕ) (others posts : List Post) → AllFit NoStatement others → parts_from from time (others ++ posts) ≡ parts_from from time posts
 skipped from time [] posts h = refl
 skipped from time (post ∷ others) posts h =
     rw (none_in from time post.0 post.1 (All-head (PostFits NoStatement) post others h)) (skipped from time others posts (All-tail (PostFits NoStatement) post others h))
 
-abbrev part_for : Map → Lsid → ℤ → Transaction → Op → ℕ → ℕ × Statement
+abbrev pub part_for : Map → Lsid → ℤ → Transaction → Op → ℕ → ℕ × Statement
 part_for chunks lsid number t op shard =
     (shard, record { tag = t.tag; lsid = lsid; number = number; k = t.k + 1; read_at = t.read_at; boot = boot_of t.parts shard; op = part_at chunks op shard })
 
-parts_are : (from : NodeId) (time : ℕ) (chunks : Map) (lsid : Lsid) (number : ℤ) (t : Transaction) (op : Op) (shards : List ℕ)
+pub parts_are : (from : NodeId) (time : ℕ) (chunks : Map) (lsid : Lsid) (number : ℤ) (t : Transaction) (op : Op) (shards : List ℕ)
     → parts_from from time (map (statement_to chunks lsid number t op) shards) ≡ map (part_for chunks lsid number t op) shards
 parts_are from time chunks lsid number t op [] = refl
 parts_are from time chunks lsid number t op (shard ∷ shards) = ap (λ (parts : List (ℕ × Statement)). part_for chunks lsid number t op shard ∷ parts) (parts_are from time chunks lsid number t op shards)
 
-firsts : (chunks : Map) (lsid : Lsid) (number : ℤ) (t : Transaction) (op : Op) (shards : List ℕ) → map (λ (part : ℕ × Statement). part.0) (map (part_for chunks lsid number t op) shards) ≡ shards
+pub firsts : (chunks : Map) (lsid : Lsid) (number : ℤ) (t : Transaction) (op : Op) (shards : List ℕ) → map (λ (part : ℕ × Statement). part.0) (map (part_for chunks lsid number t op) shards) ≡ shards
 firsts chunks lsid number t op [] = refl
 firsts chunks lsid number t op (shard ∷ shards) = ap (λ (more : List ℕ). shard ∷ more) (firsts chunks lsid number t op shards)
 
@@ -93,7 +93,7 @@ move_fits chunks begun n conn r op m from time same (inr a) =
 
 -- The step.
 
-abbrev told_by : Option ℕ → Move → List (ℕ × List ℕ) → Option ℕ → NodeAnswer
+abbrev pub told_by : Option ℕ → Move → List (ℕ × List ℕ) → Option ℕ → NodeAnswer
 told_by c m replies closed = answer.Did (sp.given_out c m).out replies closed
 
 silent_fits : (chunks : Map) (begun : List Unanswered) (n conn : ℕ) (r : RouterState) (op : Op) (test : Bool) (m : Move) (c : Option ℕ) (replies : List (ℕ × List ℕ)) (closed : Option ℕ) → r.chunks ≡ chunks → MayAsk r op m

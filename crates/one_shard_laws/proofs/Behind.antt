@@ -52,8 +52,10 @@ use Rattle.one_shard_laws.specs.Alone.{IsAlone, EventAlone, IsServedBy, AnswerAt
 use Rattle.one_shard_laws.specs.Alone.{ServedAtLeast, RecHeld, HasNumber, EventAtLeast}
 use Rattle.one_shard_laws.specs.Alone.{StepAlone}
 use Rattle.one_shard_laws.specs.Lasting.{WasNamed, WasAsked, commits_by, RecordsAlone, Lasts, Runs}
-use Rattle.one_shard_laws.proofs.Sessions.{below_above, one_some}
+use Rattle.one_shard_laws.proofs.Sessions.{expire_goes, below_above, one_some}
 use Rattle.one_shard_laws.proofs.Stepping.{step_alone}
+use Rattle.participant.specs.Expiry.{expire}
+use Rattle.part_laws.specs.Turned.{Begins, Continues}
 use Rattle.one_shard_laws.proofs.Listing.{each_more, each_last, ceiling_more, commit_more}
 use Rattle.one_shard_laws.proofs.Recording.{held_on, ceiling_alone, commit_alone}
 use Rattle.one_shard_laws.proofs.Beginning.{is_new}
@@ -230,7 +232,7 @@ answer_least : (x : Served) (m : Statement) (q : Part) (a : Msg) → AnswersTo x
 answer_least x m q (msg.Answer a) h k = k (served_by x.meaning a.outcome h.outcome)
 answer_least x m q other h k = absurd h
 
-module _ (sent : List Envelope) (served told : List Served) (q : Part) where
+module _ (sent : List Envelope) (served told : List Served) (p q : Part) (same : p.boot ≡ q.boot) where
   abbrev P : Named → Type 0
   P = WasNamed sent
 
@@ -238,24 +240,29 @@ module _ (sent : List Envelope) (served told : List Served) (q : Part) where
   Grew = (told ≡ served) ⊎ ((x : Served) × (told ≡ x ∷ served) × WasAsked sent x × (x.life ≡ q.boot)
       × IsHeld P q.sessions x.tag)
 
+  asked_boot : (m : Statement) (x : Served) → x.life ≡ q.boot → Begins p m ⊎ Continues p m
+      → (m.boot ≡ 0) ⊎ (m.boot ≡ x.life)
+  asked_boot m x life (inl h) = inl h.0
+  asked_boot m x life (inr h) = inr (h.4 ∙ same ∙ sym life)
+
   grew_by : (e : Envelope) (m : Msg) (out : List Envelope) → e.msg ≡ m
-      → Contains sent e → IfSome (named_in m) P → GrowsBy q.boot m served told out
+      → Contains sent e → IfSome (named_in m) P → GrowsBy p q m served told out
       → All (λ (a : Envelope). ServedAtLeast q m a.msg) out → Grew
-  grew_by e (msg.Statement m) out is there named (inl h) all = inl h
+  grew_by e (msg.Statement m) out is there named (inl h) all = inl h.0
   grew_by e (msg.Statement m) out is there named (inr h) all =
-      let a : Envelope = h.4.0 in
+      let a : Envelope = h.6.0 in
       let one : AnswerAtLeast q m a.msg = All-head (λ (a : Envelope). AnswerAtLeast q m a.msg) a []
-      (subst (All (λ (a : Envelope). AnswerAtLeast q m a.msg)) h.4.1 all) in
+      (subst (All (λ (a : Envelope). AnswerAtLeast q m a.msg)) h.6.1 all) in
       inr (
         h.0,
         h.1,
-        (e, m, there, is, h.2),
+        (e, m, there, is, h.2, asked_boot m h.0 h.3 h.4.1),
         h.3,
         (
           record { tag = m.tag; lsid = m.lsid; number = m.number },
           named,
           sym h.2.0,
-          answer_least h.0 m q a.msg h.4.2 one,
+          answer_least h.0 m q a.msg h.6.2 one,
         ),
       )
   grew_by e (msg.Answer m) out is there named h all = inl h
@@ -270,7 +277,7 @@ module _ (sent : List Envelope) (served told : List Served) (q : Part) where
   grew_by e (msg.Recover m) out is there named h all = inl h
   grew_by e msg.Nudge out is there named h all = inl h
 
-  pub grew : (w : Happening) (out : List Envelope) → WasSent sent w → Grows q.boot w served told out
+  pub grew : (w : Happening) (out : List Envelope) → WasSent sent w → Grows p q w served told out
       → All (λ (a : Envelope). EventAtLeast q w a.msg) out → Grew
   grew (what.Deliver e) out there h all =
       grew_by e e.msg out refl there (sent_named sent e there) h all
@@ -388,6 +395,14 @@ module _ (sent : List Envelope) (once : IsOnce (WasNamed sent)) (room : Room) (s
     pub runs : Runs M o.core (commits_by now) told
     pub out : All (InTold told) (given_out o.answer)
 
+  -- the boot stays
+  same_boot : serves.entered.boot ≡ o.core.part.boot
+  same_boot =
+      ⊎_elim (λ (h : serves.entered ≡ s.part). ap (λ (x : Part). x.boot) h)
+      (λ (h : (wall : ℕ) × (serves.entered ≡ expire s.part wall)).
+      ap (λ (x : Part). x.boot) h.1 ∙ (expire_goes M s.part h.0).boot) serves.enters
+      ∙ sym does.goes.boot
+
   -- what is said of each served statement, where one more is
   grown : (Q : Served → Type 0) → Each Q served → ((x : Served) → WasAsked sent x
       → x.life ≡ o.core.part.boot → IsHeld M o.core.part.sessions x.tag → Q x) → Each Q serves.told
@@ -396,7 +411,7 @@ module _ (sent : List Envelope) (once : IsOnce (WasNamed sent)) (room : Room) (s
       (λ (more : (x : Served) × (serves.told ≡ x ∷ served) × WasAsked sent x
       × (x.life ≡ o.core.part.boot) × IsHeld M o.core.part.sessions x.tag).
       subst (Each Q) (sym more.1) (k more.0 more.2 more.3 more.4, h))
-      (grew sent served serves.told o.core.part e.what (given_out o.answer) comes serves.grows
+      (grew sent served serves.told serves.entered o.core.part same_boot e.what (given_out o.answer) comes serves.grows
       does.served)
 
   told_still : All (InTold serves.told) sent
@@ -406,7 +421,7 @@ module _ (sent : List Envelope) (once : IsOnce (WasNamed sent)) (room : Room) (s
       (λ (more : (x : Served) × (serves.told ≡ x ∷ served) × WasAsked sent x × (x.life
       ≡ o.core.part.boot) × IsHeld M o.core.part.sessions x.tag). subst (λ (told : List Served).
       All (InTold told) sent) (sym more.1) (all_told_more more.0 served sent l.told))
-      (grew sent served serves.told o.core.part e.what (given_out o.answer) comes serves.grows
+      (grew sent served serves.told serves.entered o.core.part same_boot e.what (given_out o.answer) comes serves.grows
       does.served)
 
   held_still : (tag : Tag) → IsHeld M s.part.sessions tag → IsHeld M o.core.part.sessions tag

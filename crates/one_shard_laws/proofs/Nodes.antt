@@ -61,7 +61,7 @@ named_more sent out x h = subst (λ (ns : List Named).
     (Contains-append_left (names sent) (names out) x h)
 
 asked_more : (sent out : List Envelope) (x : Served) → WasAsked sent x → WasAsked (sent ++ out) x
-asked_more sent out x h = (h.0, h.1, Contains-append_left sent out h.0 h.2, h.3, h.4)
+asked_more sent out x h = (h.0, h.1, Contains-append_left sent out h.0 h.2, h.3, h.4, h.5)
 
 pub lasts_more : (sent out : List Envelope) (recs : List Rec)
     (s : ShardState) (served : List Served) → Lasts sent recs s served

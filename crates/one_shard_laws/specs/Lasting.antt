@@ -1,5 +1,5 @@
 -- What holds of a cluster of one shard in each state that it comes to.
-use Rattle.std.specs.Prelude.{◌≡◌, ◌≤◌, ◌++◌, List, [], ◌∷◌, filter_map, All, Contains, None}
+use Rattle.std.specs.Prelude.{◌≡◌, ◌⊎◌, ◌≤◌, ◌++◌, List, [], ◌∷◌, filter_map, All, Contains, None}
 use Rattle.txn_types.specs.declared.message.Envelope.{Envelope}
 use Rattle.txn_types.specs.declared.message.Msg.TheVariants as msg
 use Rattle.txn_types.specs.declared.message.Statement.{Statement}
@@ -25,10 +25,10 @@ use Rattle.one_shard_laws.specs.Asking.{AllRoutersAsk}
 abbrev pub WasNamed : List Envelope → Named → Type 0
 WasNamed sent x = Contains (filter_map (λ e. named_in e.msg) sent) x
 
--- the statement was sent
+-- the statement was sent, as the first of its transaction there, or in this boot
 abbrev pub WasAsked : List Envelope → Served → Type 0
 WasAsked sent x = (e : Envelope) × (m : Statement) × Contains sent e
-    × (e.msg ≡ msg.Statement m) × IsOf m x
+    × (e.msg ≡ msg.Statement m) × IsOf m x × ((m.boot ≡ 0) ⊎ (m.boot ≡ x.life))
 
 -- the commits of one journal
 abbrev pub commits_by : List Rec → List Entry

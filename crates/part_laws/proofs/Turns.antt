@@ -1,5 +1,5 @@
 -- A part behind a statement.
-use Rattle.std.proofs.Common.{◌≡◌, ◌⊎◌, inl, inr, ⊎_elim, ◌≤◌, ◌||◌, ◌&&◌, ℕ, Bool, true, false, cond, not, List, [], ◌∷◌, Option, Some, None, Result, Ok, Err, find, option_map, refl, ap, subst, ◌∙◌, sym, arith, nat_eq, nat_lt, if◌then◌else◌}
+use Rattle.std.proofs.Common.{◌≡◌, ◌⊎◌, inl, inr, ⊎_elim, ◌<◌, ◌≤◌, ◌||◌, ◌&&◌, ℕ, Bool, true, false, cond, not, List, [], ◌∷◌, Option, Some, None, Result, Ok, Err, find, option_map, refl, ap, subst, ◌∙◌, sym, arith, nat_eq, nat_lt, if◌then◌else◌}
 use Rattle.std.specs.List.{list_any}
 use Rattle.std.specs.Option.{option_and_then}
 use Rattle.txn_types.specs.BySession.{BySession, entry_of}
@@ -40,6 +40,7 @@ use Rattle.participant.specs.Statement as rules
 use Rattle.participant.specs.Statement.{Turn, statement}
 use Rattle.participant.proofs.Cases.{either}
 use Rattle.participant.proofs.Ends.{entry_elsewhere, entry_without}
+use Rattle.participant.proofs.Following.{either_is}
 use Rattle.participant.proofs.Moving.{entry_here}
 use Rattle.participant.proofs.Tags.{tag_self, tag_same, tag_flip, lsid_self, lsid_same}
 use Rattle.participant.proofs.Written.{rises_dropped}
@@ -48,7 +49,7 @@ use Rattle.part_laws.specs.Seen.{Content, wrote_at}
 use Rattle.part_laws.specs.Sound.{Opened, Opens, with_opened, decisions, own_of, Served, StandsAt, IsSound}
 use Rattle.part_laws.specs.Steps.{Runs, running, serving}
 use Rattle.part_laws.specs.Parts.{opened_of, LiveAt, AtState, HeldBy, IsKept, IsRefusedBy, IsServing, if_prepared, SamePrepared, Holds}
-use Rattle.part_laws.specs.Turned.{IsRefusedAs, IsAnswered, Turned, Comes}
+use Rattle.part_laws.specs.Turned.{IsRefusedAs, IsAnswered, Begins, IsAnew, LivesFor, Turned, Comes}
 use Rattle.part_laws.proofs.Ends.{ends}
 use Rattle.part_laws.proofs.Stores.{topped_by, versions-with_writes, rises-with_writes, versions-dropped}
 use Rattle.part_laws.proofs.Serving.{does, refuses}
@@ -79,6 +80,12 @@ why_is why other m n h = cc
 or_none : (a b : Bool) → (a || b) ≡ false → (a ≡ false) × (b ≡ false)
 or_none true b h = cc
 or_none false b h = (refl, h)
+
+newer_is : (a b : ℕ) → nat_eq a b ≡ false → nat_lt a b ≡ false → b < a
+newer_is a b h k = grind (arith, h, k)
+
+same_boot : (a b : ℕ) → nat_eq a b ≡ true → a ≡ b
+same_boot a b h = grind (arith, h)
 
 three : (a b c : Bool) → a ≡ false → b ≡ true → (not a && b && c) ≡ false → c ≡ false
 three true b c ha hb h = cc
@@ -144,8 +151,8 @@ module _ (p : Part) (opens : Opens) (last : ℕ) (entries : List Entry) (served 
   abbrev IsOpenLive : Type 0
   IsOpenLive = (t : Session) → session p m.lsid ≡ Some t → is_open t.state ≡ true → t.state ≡ state.Live
 
-  same_turn : (said : Said) → IsAnswered served m said → Turned opens last entries served m (said, p)
-  same_turn said answered = record { told = served; holds = (opens, part, λ tag. refl); grows = inl refl; answered = answered }
+  same_turn : (said : Said) → IsAnswered served m said → Turned p opens last entries served m (said, p)
+  same_turn said answered = record { told = served; holds = (opens, part, λ tag. refl); grows = inl (refl, λ lsid o there. there); answered = answered }
 
   -- what the session's live transaction is
   live_tag : (o : Open) (s : Session) → open_of p m.lsid ≡ Some o → session p m.lsid ≡ Some s → s.state ≡ state.Live → LiveAt p.boot opens s.tag (Some o)
@@ -236,17 +243,57 @@ module _ (p : Part) (opens : Opens) (last : ℕ) (entries : List Entry) (served 
       } in
       (new, moved p q opens new m.lsid s (Some o) moves last entries served part last entries told more (λ one is. let same : o ≡ one = cc in subst (IsKept told) same kept) (λ err n h. cc) sound, prepared)
 
+  -- What is live behind a statement.
+
+  left_other : (found : Option Open) (other : Lsid) → same_lsid other m.lsid ≡ false → open_of (closed p m.lsid found) other ≡ open_of p other
+  left_other None other apart = refl
+  left_other (Some o) other apart = entry_without other m.lsid apart p.live
+
+  left_own : (found : Option Open) → open_of p m.lsid ≡ found → open_of (closed p m.lsid found) m.lsid ≡ None
+  left_own None is = is
+  left_own (Some o) is = live_taken m.lsid p.live part.rises
+
+  left_case : (found : Option Open) → open_of p m.lsid ≡ found → (lsid : Lsid) (o : Open) (b : Bool) → same_lsid lsid m.lsid ≡ b → open_of (closed p m.lsid found) lsid ≡ Some o
+      → (same_lsid lsid m.lsid ≡ false) × (open_of p lsid ≡ Some o)
+  left_case found is lsid o true same there =
+      let wrong : None ≡ Some o = sym (left_own found is) ∙ ap (open_of (closed p m.lsid found)) (sym (lsid_same lsid m.lsid same)) ∙ there in cc
+  left_case found is lsid o false apart there = (apart, sym (left_other found lsid apart) ∙ there)
+
+  left_lives : (lsid : Lsid) (o : Open) → open_of (closed p m.lsid (open_of p m.lsid)) lsid ≡ Some o → (same_lsid lsid m.lsid ≡ false) × (open_of p lsid ≡ Some o)
+  left_lives lsid o there = left_case (open_of p m.lsid) refl lsid o (same_lsid lsid m.lsid) refl there
+
+  room_other : (mine : Option Open) (other : Lsid) → same_lsid other m.lsid ≡ false → open_of (rules.made_room p m mine) other ≡ open_of p other
+  room_other None other apart = left_other (open_of p m.lsid) other apart
+  room_other (Some o) other apart = refl
+
+  does_case : (live : List (Lsid × Open)) (new o : Open) (lsid : Lsid) (b : Bool) → same_lsid lsid m.lsid ≡ b → ((other : Lsid) → same_lsid other m.lsid ≡ false → entry_of other live ≡ open_of p other)
+      → entry_of lsid (put lsid_cmp m.lsid new live) ≡ Some o → ((same_lsid lsid m.lsid ≡ false) × (open_of p lsid ≡ Some o)) ⊎ ((lsid ≡ m.lsid) × (new ≡ o))
+  does_case live new o lsid true same others there =
+      let is : Some new ≡ Some o = sym (live_put lsid m.lsid new live ∙ ap (λ b. if b then Some new else entry_of lsid live) same) ∙ there in
+      let one : new ≡ o = cc in
+      inr (lsid_same lsid m.lsid same, one)
+  does_case live new o lsid false apart others there =
+      inl (apart, sym (live_put lsid m.lsid new live ∙ ap (λ b. if b then Some new else entry_of lsid live) apart ∙ others lsid apart) ∙ there)
+
+  does_lives : (wall at : ℕ) (mine : Option Open) (reply : OpReply) (writes own : List Write) → LivesFor p (rules.does p wall m at mine reply writes).1 m.lsid (serving m.tag p.boot m.k at m.op own (Ok (reply, writes)))
+  does_lives wall at mine reply writes own lsid o there =
+      let new = rules.opened wall m at mine reply writes in
+      ⊎_elim (λ (h : (same_lsid lsid m.lsid ≡ false) × (open_of p lsid ≡ Some o)). inl h)
+      (λ (h : (lsid ≡ m.lsid) × (new ≡ o)). inr (h.0, (sym (ap (λ (x : Open). x.tag) h.1), sym (ap (λ (x : Open). x.k) h.1), sym (ap (λ (x : Open). x.read_at) h.1), ap (λ (x : Open). Ok x.reply) h.1)))
+      (does_case (rules.made_room p m mine).live new o lsid (same_lsid lsid m.lsid) refl (room_other mine) there)
+
   -- what a statement finds of its transaction, and what is done then
   record Ready (wall at : ℕ) (mine : Option Open) : Type 0 where
     runs : Runs p.boot at (opens m.tag)
     behind : at ≤ last
     free : IsOpenLive
+    anew : IsAnew p m
     done : (reply : OpReply) (writes : List Write) (told : List Served) → ((x : Served) → Among x served → Among x told) → IsKept told (rules.opened wall m at mine reply writes)
         → IsSound (with_writes m.tag p.store writes) (with_opened m.tag (Some (running p.boot at (opens m.tag) writes)) opens) last entries told
         → Holds opens (rules.with_open (rules.made_room p m mine) m (rules.opened wall m at mine reply writes) writes) last entries told
 
   -- its transaction goes on
-  module _ (wall : ℕ) (o : Open) (s : Session) (there : open_of p m.lsid ≡ Some o) (is : session p m.lsid ≡ Some s) (live : s.state ≡ state.Live) (same : s.tag ≡ m.tag) where
+  module _ (wall : ℕ) (o : Open) (s : Session) (there : open_of p m.lsid ≡ Some o) (is : session p m.lsid ≡ Some s) (live : s.state ≡ state.Live) (same : s.tag ≡ m.tag) (newer : o.k < m.k) (boot : m.boot ≡ p.boot) where
     mine_is : opens m.tag ≡ Some (opened_of p.boot o)
     mine_is = ap opens (sym same) ∙ (live_tag o s there is live).1
 
@@ -259,6 +306,7 @@ module _ (p : Part) (opens : Opens) (last : ℕ) (entries : List Entry) (served 
           runs = subst (Runs p.boot o.read_at) (sym mine_is) (refl, refl, refl, refl);
           behind = (part.sound.opened m.tag (opened_of p.boot o) mine_is).reads;
           free = λ t found still. ap (λ (z : Session). z.state) (one_some (session p m.lsid) t s found is) ∙ live;
+          anew = (comes.alone, inr (o, there, (live_tag o s there is live).0 ∙ same, newer, boot));
           done = λ reply writes told more kept sound.
               let x : Option Opened = Some (running p.boot o.read_at (opens m.tag) writes) in
               let new = with_opened m.tag x opens in
@@ -286,7 +334,10 @@ module _ (p : Part) (opens : Opens) (last : ℕ) (entries : List Entry) (served 
   none_case None is other = is
   none_case (Some x) is other = let by = part.held m.tag x is in absurd (held_where by (same_lsid by.0 m.lsid) refl other)
 
-  module _ (wall : ℕ) (free : IsOpenLive) (other_tag : (t : Session) → session p m.lsid ≡ Some t → t.tag ≡ m.tag → ⊥) where
+  module _ (wall : ℕ) (free : IsOpenLive) (begins : Begins p m) where
+    other_tag : (t : Session) → session p m.lsid ≡ Some t → t.tag ≡ m.tag → ⊥
+    other_tag t found = never_same t.tag m.tag (begins.1 t found).1
+
     new_none : opens m.tag ≡ None
     new_none = none_case (opens m.tag) refl other_tag
 
@@ -339,6 +390,7 @@ module _ (p : Part) (opens : Opens) (last : ℕ) (entries : List Entry) (served 
           runs = subst (Runs p.boot (rules.read_time last m)) (sym new_none) tt;
           behind = read_behind (nat_eq m.read_at 0);
           free = free;
+          anew = (comes.alone, inl begins);
           done = λ reply writes told more kept sound. done_new (rules.read_time last m) reply writes told more kept sound (open_of p m.lsid) refl;
         }
 
@@ -364,76 +416,83 @@ module _ (p : Part) (opens : Opens) (last : ℕ) (entries : List Entry) (served 
       (s, inl refl, tagged, told.0 ∙ time, told.1 ∙ ap Err one)
 
   module _ (wall at : ℕ) (mine : Option Open) (ready : Ready wall at mine) where
-    refuse_turn : (why : Cause) (read_at : ℕ) → ((err : OpErr) → why ≡ cause.Statement err → ⊥) → IsRefusedAs served m why read_at → Turned opens last entries served m (rules.refuses p m why read_at)
+    refuse_turn : (why : Cause) (read_at : ℕ) → ((err : OpErr) → why ≡ cause.Statement err → ⊥) → IsRefusedAs served m why read_at → Turned p opens last entries served m (rules.refuses p m why read_at)
     refuse_turn why read_at other answered =
         record {
           told = served;
           holds = refuse_case (state.Aborted why read_at) refl (λ boot os tag. refl) ready.free served (λ x h. h) (λ err n h. absurd (other err (why_is why (cause.Statement err) read_at n h))) part.sound (open_of p m.lsid) refl;
-          grows = inl refl;
+          grows = inl (refl, λ lsid o there. (left_lives lsid o there).1);
           answered = answered;
         }
 
     done_turn : (rows : List Row) (reply : OpReply) (writes : List Write) → scan p.store (ns_of m.op) (touched m.op) at m.tag ≡ Ok rows → eval m.op rows ≡ Ok (reply, writes) → conflict p.store at m.tag writes ≡ None
-        → Turned opens last entries served m (rules.does p wall m at mine reply writes)
+        → Turned p opens last entries served m (rules.does p wall m at mine reply writes)
     done_turn rows reply writes is means clear =
         let s = serving m.tag p.boot m.k at m.op (own_of (opens m.tag)) (Ok (reply, writes)) in
         record {
           told = s ∷ served;
           holds = ready.done reply writes (s ∷ served) (more_one s) (s, inl refl, refl, refl, refl, refl)
               (does p.store opens last entries served part.sound m.tag p.boot m.k at m.op ready.runs comes.fresh ready.behind rows reply writes is means clear);
-          grows = inr (s, refl, (refl, refl, refl), room_boot mine, (refl, refl));
+          grows = inr (s, refl, (refl, refl, refl), room_boot mine, (refl, refl), ready.anew, does_lives wall at mine reply writes (own_of (opens m.tag)));
           answered = (s, inl refl, refl, refl, refl, refl);
         }
 
     clear_turn : (rows : List Row) (reply : OpReply) (writes : List Write) (c : Option (Id × By)) → scan p.store (ns_of m.op) (touched m.op) at m.tag ≡ Ok rows → eval m.op rows ≡ Ok (reply, writes) → conflict p.store at m.tag writes ≡ c
-        → Turned opens last entries served m (rules.unless_conflict p wall m at mine reply writes c)
+        → Turned p opens last entries served m (rules.unless_conflict p wall m at mine reply writes c)
     clear_turn rows reply writes None is means clear =
-        either (nat_lt rules.most_bytes (volume (rules.writes_with mine writes))) (Turned opens last entries served m) _ _
+        either (nat_lt rules.most_bytes (volume (rules.writes_with mine writes))) (Turned p opens last entries served m) _ _
         (refuse_turn (cause.Volume (volume (rules.writes_with mine writes))) 0 (λ err h. cc) tt) (done_turn rows reply writes is means clear)
     clear_turn rows reply writes (Some c) is means clear = refuse_turn (cause.WriteConflict c.0 c.1) 0 (λ err h. cc) tt
 
-    meant_turn : (rows : List Row) (meaning : Meaning) → scan p.store (ns_of m.op) (touched m.op) at m.tag ≡ Ok rows → eval m.op rows ≡ meaning → Turned opens last entries served m (rules.evaluated p wall m at mine meaning)
+    meant_turn : (rows : List Row) (meaning : Meaning) → scan p.store (ns_of m.op) (touched m.op) at m.tag ≡ Ok rows → eval m.op rows ≡ meaning → Turned p opens last entries served m (rules.evaluated p wall m at mine meaning)
     meant_turn rows (Err err) is means =
         let s = serving m.tag p.boot m.k at m.op (own_of (opens m.tag)) (Err err) in
         record {
           told = s ∷ served;
           holds = refuse_case (state.Aborted (cause.Statement err) at) refl (λ boot os tag. refl) ready.free (s ∷ served) (more_one s) (λ e n h. same_refusal err e at n s refl (refl, refl) h)
               (refuses p.store opens last entries served part.sound m.tag p.boot m.k at m.op ready.runs comes.fresh ready.behind rows (Err err) is means refl) (open_of p m.lsid) refl;
-          grows = inr (s, refl, (refl, refl, refl), closed_boot (open_of p m.lsid), (refl, refl));
+          grows = inr (s, refl, (refl, refl, refl), closed_boot (open_of p m.lsid), (refl, refl), ready.anew, λ lsid o there. inl (left_lives lsid o there));
           answered = (s, inl refl, refl, refl, refl);
         }
     meant_turn rows (Ok done) is means = clear_turn rows done.0 done.1 (conflict p.store at m.tag done.1) is means refl
 
-    scanned_turn : (found : Result (List Row) Held) → scan p.store (ns_of m.op) (touched m.op) at m.tag ≡ found → Turned opens last entries served m (rules.scanned p wall m at mine found)
+    scanned_turn : (found : Result (List Row) Held) → scan p.store (ns_of m.op) (touched m.op) at m.tag ≡ found → Turned p opens last entries served m (rules.scanned p wall m at mine found)
     scanned_turn (Err held) is = same_turn (Blocked held) tt
     scanned_turn (Ok rows) is = meant_turn rows (eval m.op rows) is refl
 
-    performed_turn : Turned opens last entries served m (rules.performed p wall m at mine)
+    performed_turn : Turned p opens last entries served m (rules.performed p wall m at mine)
     unfolding rules.performed
     performed_turn = scanned_turn (scan p.store (ns_of m.op) (touched m.op) at m.tag) refl
 
   -- The rules 1 to 5.
 
-  refused_turn : (why : Cause) → IsRefusedAs served m why 0 → Turned opens last entries served m (rules.refused p why)
+  refused_turn : (why : Cause) → IsRefusedAs served m why 0 → Turned p opens last entries served m (rules.refused p why)
   refused_turn why answered = same_turn (Refused why 0) answered
 
   module _ (wall : ℕ) (s : Session) (is : session p m.lsid ≡ Some s) (same : s.tag ≡ m.tag) where
-    again_turn : (o : Open) → open_of p m.lsid ≡ Some o → s.state ≡ state.Live → m.k ≡ o.k → Turned opens last entries served m (Did o.read_at o.reply o.wrote, p)
+    again_turn : (o : Open) → open_of p m.lsid ≡ Some o → s.state ≡ state.Live → m.k ≡ o.k → Turned p opens last entries served m (Did o.read_at o.reply o.wrote, p)
     again_turn o there live k =
         let kept = part.kept m.lsid o there in
         same_turn (Did o.read_at o.reply o.wrote) (kept.0, kept.1, kept.2 ∙ (live_tag o s there is live).0 ∙ same, kept.3 ∙ sym k, kept.4, kept.5)
 
-    gone_turn : (live : s.state ≡ state.Live) (why : Cause) → ((err : OpErr) → why ≡ cause.Statement err → ⊥) → IsRefusedAs served m why 0 → Turned opens last entries served m (Refused why 0, aborted p m.lsid s why)
-    gone_turn live why other answered = record { told = served; holds = (with_opened s.tag None opens, aborted_holds p opens last entries served part m.lsid s why other is live, live_same p opens last entries served part m.lsid s is live); grows = inl refl; answered = answered }
+    gone_case : (lsid : Lsid) (o : Open) (b : Bool) → same_lsid lsid m.lsid ≡ b → entry_of lsid (taken_out lsid_cmp m.lsid p.live) ≡ Some o → open_of p lsid ≡ Some o
+    gone_case lsid o true at there =
+        let wrong : None ≡ Some o = sym (live_taken m.lsid p.live part.rises) ∙ ap (λ l. entry_of l (taken_out lsid_cmp m.lsid p.live)) (sym (lsid_same lsid m.lsid at)) ∙ there in cc
+    gone_case lsid o false apart there = sym (entry_without lsid m.lsid apart p.live) ∙ there
+
+    gone_turn : (live : s.state ≡ state.Live) (why : Cause) → ((err : OpErr) → why ≡ cause.Statement err → ⊥) → IsRefusedAs served m why 0 → Turned p opens last entries served m (Refused why 0, aborted p m.lsid s why)
+    gone_turn live why other answered = record { told = served; holds = (with_opened s.tag None opens, aborted_holds p opens last entries served part m.lsid s why other is live, live_same p opens last entries served part m.lsid s is live); grows = inl (refl, λ lsid o there. (gone_case lsid o (same_lsid lsid m.lsid) refl there)); answered = answered }
 
     number_turn : (o : Open) (b : Bool) → nat_eq m.k o.k ≡ b → open_of p m.lsid ≡ Some o → s.state ≡ state.Live
-        → Turned opens last entries served m (if b then (Did o.read_at o.reply o.wrote, p) else if nat_lt m.k o.k then (Late, p) else if nat_eq m.boot p.boot then rules.performed p wall m o.read_at (Some o) else (Refused (cause.Unavailable m.boot p.boot) 0, aborted p m.lsid s (cause.Unavailable m.boot p.boot)))
+        → Turned p opens last entries served m (if b then (Did o.read_at o.reply o.wrote, p) else if nat_lt m.k o.k then (Late, p) else if nat_eq m.boot p.boot then rules.performed p wall m o.read_at (Some o) else (Refused (cause.Unavailable m.boot p.boot) 0, aborted p m.lsid s (cause.Unavailable m.boot p.boot)))
     number_turn o true k there live = again_turn o there live (grind (arith, k))
     number_turn o false k there live =
-        either (nat_lt m.k o.k) (Turned opens last entries served m) _ _ (same_turn Late tt)
-        (either (nat_eq m.boot p.boot) (Turned opens last entries served m) _ _ (performed_turn wall o.read_at (Some o) (ready_own wall o s there is live same)) (gone_turn live (cause.Unavailable m.boot p.boot) (λ err h. cc) tt))
+        either_is (nat_lt m.k o.k) (Turned p opens last entries served m) _ _ (λ late. same_turn Late tt)
+        (λ later. either_is (nat_eq m.boot p.boot) (Turned p opens last entries served m) _ _
+        (λ boot. performed_turn wall o.read_at (Some o) (ready_own wall o s there is live same (newer_is m.k o.k k later) (same_boot m.boot p.boot boot)))
+        (λ other. gone_turn live (cause.Unavailable m.boot p.boot) (λ err h. cc) tt))
 
-    on_turn : (o : Option Open) → open_of p m.lsid ≡ o → s.state ≡ state.Live → Turned opens last entries served m (rules.goes_on p wall m s o)
+    on_turn : (o : Option Open) → open_of p m.lsid ≡ o → s.state ≡ state.Live → Turned p opens last entries served m (rules.goes_on p wall m s o)
     on_turn None there live = same_turn Late tt
     on_turn (Some o) there live = number_turn o (nat_eq m.k o.k) refl there live
 
@@ -441,51 +500,55 @@ module _ (p : Part) (opens : Opens) (last : ℕ) (entries : List Entry) (served 
     told_again (cause.Statement err) n st = let h = part.refusals m.lsid s err n is st in (h.0, h.1, h.2 ∙ same, h.3, h.4)
     told_again other n st = tt
 
-    later_turn : (st : SessionState) → s.state ≡ st → Turned opens last entries served m (rules.later_statement p wall m s st)
+    later_turn : (st : SessionState) → s.state ≡ st → Turned p opens last entries served m (rules.later_statement p wall m s st)
     later_turn state.Live live = on_turn (open_of p m.lsid) refl live
     later_turn (state.Prepared at coordinator) live = same_turn Late tt
     later_turn (state.Committed at) live = same_turn Late tt
     later_turn state.Released live = same_turn Late tt
     later_turn (state.Aborted why read_at) live = same_turn (Refused why read_at) (told_again why read_at live)
 
-  begin_turn : (wall : ℕ) → IsOpenLive → ((t : Session) → session p m.lsid ≡ Some t → t.tag ≡ m.tag → ⊥) → Turned opens last entries served m (rules.begins p last wall m)
-  begin_turn wall free other_tag = performed_turn wall (rules.read_time last m) None (ready_new wall free other_tag)
+  begin_turn : (wall : ℕ) → IsOpenLive → Begins p m → Turned p opens last entries served m (rules.begins p last wall m)
+  begin_turn wall free begins = performed_turn wall (rules.read_time last m) None (ready_new wall free begins)
 
-  module _ (wall : ℕ) (s : Session) (is : session p m.lsid ≡ Some s) (differ : s.tag ≡ m.tag → ⊥) where
-    other_tag : (t : Session) → session p m.lsid ≡ Some t → t.tag ≡ m.tag → ⊥
-    other_tag t found same = differ (ap (λ (z : Session). z.tag) (one_some (session p m.lsid) s t is found) ∙ same)
+  module _ (wall : ℕ) (s : Session) (is : session p m.lsid ≡ Some s) (kept : is_replaced s m.number m.tag ≡ false) (differ : same_tag s.tag m.tag ≡ false) where
+    begins : m.boot ≡ 0 → Begins p m
+    begins none = (
+      none,
+      λ t found. let one : s ≡ t = one_some (session p m.lsid) s t is found in
+          (subst (λ (x : Session). is_replaced x m.number m.tag ≡ false) one kept, subst (λ (x : Session). same_tag x.tag m.tag ≡ false) one differ),
+    )
 
     free_from : (st : SessionState) → s.state ≡ st → (is_open st ≡ true → st ≡ state.Live) → IsOpenLive
     free_from st at h t found still =
         let one : t ≡ s = one_some (session p m.lsid) t s found is in
         ap (λ (z : Session). z.state) one ∙ at ∙ h (sym (ap is_open at) ∙ ap (λ (z : Session). is_open z.state) (sym one) ∙ still)
 
-    beside_turn : (st : SessionState) → s.state ≡ st → Turned opens last entries served m (rules.beside_older p last wall m s.tag st)
-    beside_turn state.Live at = begin_turn wall (free_from state.Live at (λ still. refl)) other_tag
-    beside_turn (state.Prepared since coordinator) at = refused_turn (cause.PreparedStands s.tag) tt
-    beside_turn (state.Committed time) at = begin_turn wall (free_from (state.Committed time) at (λ still. cc)) other_tag
-    beside_turn state.Released at = begin_turn wall (free_from state.Released at (λ still. cc)) other_tag
-    beside_turn (state.Aborted why read_at) at = begin_turn wall (free_from (state.Aborted why read_at) at (λ still. cc)) other_tag
+    beside_turn : m.boot ≡ 0 → (st : SessionState) → s.state ≡ st → Turned p opens last entries served m (rules.beside_older p last wall m s.tag st)
+    beside_turn none state.Live at = begin_turn wall (free_from state.Live at (λ still. refl)) (begins none)
+    beside_turn none (state.Prepared since coordinator) at = refused_turn (cause.PreparedStands s.tag) tt
+    beside_turn none (state.Committed time) at = begin_turn wall (free_from (state.Committed time) at (λ still. cc)) (begins none)
+    beside_turn none state.Released at = begin_turn wall (free_from state.Released at (λ still. cc)) (begins none)
+    beside_turn none (state.Aborted why read_at) at = begin_turn wall (free_from (state.Aborted why read_at) at (λ still. cc)) (begins none)
 
-    first_turn : Turned opens last entries served m (rules.first_statement p last wall m (Some s))
-    first_turn = either (nat_eq m.boot 0) (Turned opens last entries served m) _ _ (beside_turn s.state refl) (refused_turn (cause.Unavailable m.boot p.boot) tt)
+    first_turn : Turned p opens last entries served m (rules.first_statement p last wall m (Some s))
+    first_turn = either_is (nat_eq m.boot 0) (Turned p opens last entries served m) _ _ (λ none. beside_turn (same_boot m.boot 0 none) s.state refl) (λ some. refused_turn (cause.Unavailable m.boot p.boot) tt)
 
-  none_turn : (wall : ℕ) → session p m.lsid ≡ None → Turned opens last entries served m (rules.first_statement p last wall m None)
+  none_turn : (wall : ℕ) → session p m.lsid ≡ None → Turned p opens last entries served m (rules.first_statement p last wall m None)
   none_turn wall none =
-      either (nat_eq m.boot 0) (Turned opens last entries served m) _ _
-      (either (is_full p.sessions) (Turned opens last entries served m) _ _ (refused_turn cause.TooManySessions tt)
-      (begin_turn wall (λ t found still. let wrong : None ≡ Some t = sym none ∙ found in cc) (λ t found same. let wrong : None ≡ Some t = sym none ∙ found in cc)))
-      (refused_turn (cause.Unavailable m.boot p.boot) tt)
+      either_is (nat_eq m.boot 0) (Turned p opens last entries served m) _ _
+      (λ boot. either (is_full p.sessions) (Turned p opens last entries served m) _ _ (refused_turn cause.TooManySessions tt)
+      (begin_turn wall (λ t found still. let wrong : None ≡ Some t = sym none ∙ found in cc) (same_boot m.boot 0 boot, λ t found. let wrong : None ≡ Some t = sym none ∙ found in cc)))
+      (λ some. refused_turn (cause.Unavailable m.boot p.boot) tt)
 
-  tag_turn : (wall : ℕ) (s : Session) (b : Bool) → same_tag s.tag m.tag ≡ b → session p m.lsid ≡ Some s → Turned opens last entries served m (if b then rules.later_statement p wall m s s.state else rules.first_statement p last wall m (Some s))
-  tag_turn wall s true same is = later_turn wall s is (tag_same s.tag m.tag same) s.state refl
-  tag_turn wall s false differ is = first_turn wall s is (never_same s.tag m.tag differ)
+  tag_turn : (wall : ℕ) (s : Session) (b : Bool) → is_replaced s m.number m.tag ≡ false → same_tag s.tag m.tag ≡ b → session p m.lsid ≡ Some s → Turned p opens last entries served m (if b then rules.later_statement p wall m s s.state else rules.first_statement p last wall m (Some s))
+  tag_turn wall s true kept same is = later_turn wall s is (tag_same s.tag m.tag same) s.state refl
+  tag_turn wall s false kept differ is = first_turn wall s is kept differ
 
-  session_turn : (wall : ℕ) (s : Option Session) → session p m.lsid ≡ s → Turned opens last entries served m (rules.by_session p last wall m s)
+  session_turn : (wall : ℕ) (s : Option Session) → session p m.lsid ≡ s → Turned p opens last entries served m (rules.by_session p last wall m s)
   session_turn wall None is = none_turn wall is
   session_turn wall (Some s) is =
-      either (is_replaced s m.number m.tag) (Turned opens last entries served m) _ _ (refused_turn (cause.Replaced s.number s.tag) tt) (tag_turn wall s (same_tag s.tag m.tag) refl is)
+      either_is (is_replaced s m.number m.tag) (Turned p opens last entries served m) _ _ (λ yes. refused_turn (cause.Replaced s.number s.tag) tt) (λ kept. tag_turn wall s (same_tag s.tag m.tag) kept refl is)
 
-  pub statement_turns : (wall : ℕ) → Turned opens last entries served m (statement p last wall m)
+  pub statement_turns : (wall : ℕ) → Turned p opens last entries served m (statement p last wall m)
   unfolding statement
   statement_turns wall = session_turn wall (session p m.lsid) refl

@@ -30,7 +30,7 @@ ghost use Rattle.part_laws.specs.Start.{first_part, none_open, prepared_ones, Re
 /// it, and nothing else there; and what is said to be done was served so.
 pub fn a_statement_is_right()
     ensures { (p : Part) (opens : Opens) (last : ℕ) (entries : List Entry) (served : List Served) → IsServing p opens last entries served
-        → (m : Statement) → Comes p opens last entries served m → (wall : ℕ) → Turned opens last entries served m (statement p last wall m) }
+        → (m : Statement) → Comes p opens last entries served m → (wall : ℕ) → Turned p opens last entries served m (statement p last wall m) }
 {}
 
 /// A commit leaves it, with the entry of its record among the commits; without a record with the same commits.

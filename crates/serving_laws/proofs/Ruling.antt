@@ -37,7 +37,7 @@ use Rattle.participant.proofs.Cases.{either}
 use Rattle.participant.proofs.Following.{either_is}
 use Rattle.part_laws.specs.Sound.{Opens, Served}
 use Rattle.part_laws.specs.Parts.{IsServing, Holds}
-use Rattle.part_laws.specs.Turned.{IsOf, IsTold, IsRefused, IsRefusedAs, IsAnswered, Turned}
+use Rattle.part_laws.specs.Turned.{IsOf, IsTold, IsRefused, IsRefusedAs, IsAnswered, NoneBegins, IsAnew, LivesFor, Turned}
 use Rattle.part_laws.proofs.Messages.{same_holds, abort_live, abort_holds, recover_holds, commit_holds, prepare_holds, decide_holds}
 use Rattle.shard_core.specs.State.{ShardState, with_part, read_at_of}
 use Rattle.shard_core.specs.Ruled.{Ruled, quiet, coordinates, outcome}
@@ -57,14 +57,14 @@ abbrev pub InTold : List Served → Letter → Type 0
 InTold told l = IsToldBy told l.1
 
 -- at most one statement is served, and its Answer is all that is sent
-abbrev pub GrowsAs : ℕ → Msg → List Served → List Served → List Letter → Option Held → Type 0
-GrowsAs boot (msg.Statement m) served told out held = (told ≡ served) ⊎ ((x : Served) × (told ≡ x ∷ served) × IsOf m x × (x.life ≡ boot) × (held ≡ None) × ((l : Letter) × (out ≡ l ∷ []) × AnswersTo x l.1))
-GrowsAs boot other served told out held = told ≡ served
+abbrev pub GrowsAs : Part → Part → Msg → List Served → List Served → List Letter → Option Held → Type 0
+GrowsAs p q (msg.Statement m) served told out held = ((told ≡ served) × NoneBegins p q) ⊎ ((x : Served) × (told ≡ x ∷ served) × IsOf m x × (x.life ≡ q.boot) × IsAnew p m × LivesFor p q m.lsid x × (held ≡ None) × ((l : Letter) × (out ≡ l ∷ []) × AnswersTo x l.1))
+GrowsAs p q other served told out held = told ≡ served
 
-pub record RuleServes (old : Opens) (last : ℕ) (entries : List Entry) (served : List Served) (m : Msg) (r : Ruled) : Type 0 where
+pub record RuleServes (before : Part) (old : Opens) (last : ℕ) (entries : List Entry) (served : List Served) (m : Msg) (r : Ruled) : Type 0 where
   pub told : List Served
   pub left : LeftBy old r.core.part last r.core.clock.last entries told m r.rec
-  pub grows : GrowsAs r.core.part.boot m served told r.out r.held
+  pub grows : GrowsAs before r.core.part m served told r.out r.held
   pub out : All (InTold told) r.out
 
 -- what tells nothing of a statement
@@ -127,16 +127,19 @@ refused_there s to m told (cause.Statement err) at h = h
 refused_there s to m told other at h = tt
 
 module _ (s : ShardState) (to : NodeId) (m : Statement) (opens : Opens) (entries : List Entry) (served : List Served) where
-  grown : (told : List Served) (said : Said) → ((told ≡ served) ⊎ ((x : Served) × (told ≡ x ∷ served) × IsOf m x × (x.life ≡ s.part.boot) × IsTold said x)) → GrowsAs (answers s to m said).core.part.boot (msg.Statement m) served told (answers s to m said).out (answers s to m said).held
-  grown told said (inl h) = inl h
-  grown told (Did at reply wrote) (inr h) =
-      let is : participating.answer s to m at (Ok (reply, wrote)) ∷ [] ≡ participating.answer s to m at (Ok (reply, wrote)) ∷ [] = refl in
-      inr (h.0, h.1, h.2, h.3, refl, (participating.answer s to m at (Ok (reply, wrote)), is, record { tag = sym h.2.0; k = sym h.2.1; read_at = sym h.4.0; outcome = h.4.1 }))
-  grown told (Blocked held) (inr h) = absurd h.4
-  grown told (Refused why at) (inr h) =
+  grown : (before : Part) (told : List Served) (said : Said) → ((told ≡ served) × NoneBegins before s.part) ⊎ ((x : Served) × (told ≡ x ∷ served) × IsOf m x × (x.life ≡ s.part.boot) × IsTold said x × IsAnew before m × LivesFor before s.part m.lsid x)
+      → GrowsAs before (answers s to m said).core.part (msg.Statement m) served told (answers s to m said).out (answers s to m said).held
+  grown before told (Did at reply wrote) (inl h) = inl h
+  grown before told (Blocked held) (inl h) = inl h
+  grown before told (Refused why at) (inl h) = inl h
+  grown before told Late (inl h) = inl h
+  grown before told (Did at reply wrote) (inr h) =
+      inr (h.0, h.1, h.2, h.3, h.5, h.6, refl, (participating.answer s to m at (Ok (reply, wrote)), refl, record { tag = sym h.2.0; k = sym h.2.1; read_at = sym h.4.0; outcome = h.4.1 }))
+  grown before told (Blocked held) (inr h) = absurd h.4
+  grown before told (Refused why at) (inr h) =
       let r = answers_refusal m h.0 why at h.4 in
-      inr (h.0, h.1, h.2, h.3, refl, (participating.answer s to m at (Err why), refl, record { tag = sym h.2.0; k = sym h.2.1; read_at = r.0; outcome = r.1 }))
-  grown told Late (inr h) = absurd h.4
+      inr (h.0, h.1, h.2, h.3, h.5, h.6, refl, (participating.answer s to m at (Err why), refl, record { tag = sym h.2.0; k = sym h.2.1; read_at = r.0; outcome = r.1 }))
+  grown before told Late (inr h) = absurd h.4
 
   told_out : (told : List Served) (said : Said) → IsAnswered told m said → All (InTold told) (answers s to m said).out
   told_out told (Did at reply wrote) h = one (InTold told) _ h
@@ -150,13 +153,13 @@ module _ (s : ShardState) (to : NodeId) (m : Statement) (opens : Opens) (entries
   same_core told (Refused why at) h = (h, tt)
   same_core told Late h = (h, tt)
 
-turn_serves : (s : ShardState) (to : NodeId) (m : Statement) (opens : Opens) (entries : List Entry) (served : List Served) (turn : Turn) → Turned opens s.clock.last entries served m turn → RuleServes opens s.clock.last entries served (msg.Statement m) (said_to s to m turn)
+turn_serves : (s : ShardState) (to : NodeId) (m : Statement) (opens : Opens) (entries : List Entry) (served : List Served) (turn : Turn) → Turned s.part opens s.clock.last entries served m turn → RuleServes s.part opens s.clock.last entries served (msg.Statement m) (said_to s to m turn)
 turn_serves s to m opens entries served turn t =
     let then : ShardState = with_part s turn.1 in
     record {
       told = t.told;
       left = same_core then to m opens entries served t.told turn.0 t.holds;
-      grows = grown then to m opens entries served t.told turn.0 t.grows;
+      grows = grown then to m opens entries served s.part t.told turn.0 t.grows;
       out = told_out then to m opens entries served t.told turn.0 t.answered;
     }
 
@@ -234,14 +237,14 @@ module _ (s : ShardState) (opens : Opens) (entries : List Entry) (served : List 
   router_rests rule None h = quiet_rests
   router_rests rule (Some n) h = h n
 
-  rests : (m : Msg) (r : Ruled) → ((told : List Served) (out : List Letter) (held : Option Held) → told ≡ served → GrowsAs r.core.part.boot m served told out held)
-      → ((q : Part) (later : ℕ) (recorded : Option Rec) → Holds opens q later entries served → NoneButCoord recorded → LeftBy opens q s.clock.last later entries served m recorded) → Rests r → RuleServes opens s.clock.last entries served m r
+  rests : (m : Msg) (r : Ruled) → ((told : List Served) (out : List Letter) (held : Option Held) → told ≡ served → GrowsAs s.part r.core.part m served told out held)
+      → ((q : Part) (later : ℕ) (recorded : Option Rec) → Holds opens q later entries served → NoneButCoord recorded → LeftBy opens q s.clock.last later entries served m recorded) → Rests r → RuleServes s.part opens s.clock.last entries served m r
   rests m r grows left h = record { told = served; left = left r.core.part r.core.clock.last r.rec h.holds h.recorded; grows = grows served r.out r.held refl; out = silent_out served r.out h.out }
 
-  pub rule_serves : (from : NodeId) (m : Msg) → read_at_of m ≤ s.clock.last → MsgComes s.part opens entries served m → RuleServes opens s.clock.last entries served m (ruled s from m)
+  pub rule_serves : (from : NodeId) (m : Msg) → read_at_of m ≤ s.clock.last → MsgComes s.part opens entries served m → RuleServes s.part opens s.clock.last entries served m (ruled s from m)
   rule_serves from (msg.Statement m) reads comes =
-      either_is (elsewhere s.part m.lsid m.tag) (RuleServes opens s.clock.last entries served (msg.Statement m)) _ _
-      (λ there. record { told = served; left = (same, tt); grows = inl refl; out = nothing (InTold served) })
+      either_is (elsewhere s.part m.lsid m.tag) (RuleServes s.part opens s.clock.last entries served (msg.Statement m)) _ _
+      (λ there. record { told = served; left = (same, tt); grows = inl (refl, λ lsid o there. there); out = nothing (InTold served) })
       (λ alone. turn_serves s from m opens entries served (statement s.part s.clock.last s.wall m) (new_turns s.part opens s.clock.last entries served part m reads alone comes s.wall))
   rule_serves from (msg.Answer m) reads comes = rests (msg.Answer m) (quiet s) (λ told out held h. h) (λ q later recorded h k. (h, k)) quiet_rests
   rule_serves from (msg.Commit m) reads comes =

@@ -18,7 +18,21 @@ use Rattle.txn_semantics.specs.declared.commits.Entry.{Entry}
 use Rattle.version_store.specs.declared.version.Held.{Held}
 use Rattle.journal_rec.specs.declared.record.Rec.{Rec}
 use Rattle.journal_rec.specs.declared.record.Rec.TheVariants as rec
-use Rattle.participant.specs.Part.{Part, elsewhere}
+use Rattle.txn_types.specs.BySession.{entry_of}
+use Rattle.txn_types.specs.Order.{same_tag, same_lsid, lsid_cmp}
+use Rattle.txn_types.specs.declared.names.Tag.{Tag}
+use Rattle.txn_types.specs.declared.node.Lsid.{Lsid}
+use Rattle.txn_semantics.specs.Keyed.{taken_out, Rises}
+use Rattle.session_table.specs.declared.session.Session.{Session}
+use Rattle.session_table.specs.declared.session.SessionState.{SessionState}
+use Rattle.session_table.specs.declared.session.SessionState.TheVariants as state
+use Rattle.participant.specs.declared.said.Open.{Open}
+use Rattle.participant.specs.Memory.{ends_own, ends_session, ended_for_memory}
+use Rattle.participant.specs.Part.{Part, session, elsewhere}
+use Rattle.participant.proofs.Ends.{entry_without}
+use Rattle.participant.proofs.Tags.{lsid_same}
+use Rattle.part_laws.specs.Turned.{NoneBegins}
+use Rattle.part_laws.proofs.Moving.{live_taken}
 use Rattle.participant.proofs.Cases.{either}
 use Rattle.part_laws.specs.Sound.{Opened, Opens, Served}
 use Rattle.part_laws.specs.Parts.{IsServing, Holds, HoldsBut, if_prepared, SamePrepared}
@@ -34,7 +48,7 @@ use Rattle.shard_core.specs.Core.{Room, Ample, Scarce, Short, CoreStep, core_ste
 use Rattle.cluster_core.specs.Naming.{given_out}
 use Rattle.serving_laws.specs.Coming.{IsNew, MsgComes, EventComes}
 use Rattle.serving_laws.specs.Telling.{IsToldBy, GrowsBy, Grows}
-use Rattle.serving_laws.specs.Left.{LeftBy, Left, StepServes}
+use Rattle.serving_laws.specs.Left.{LeftBy, Left, Enters, StepServes}
 use Rattle.serving_laws.proofs.Ruling.{InTold, GrowsAs, RuleServes, rule_serves, told_resends}
 use Rattle.serving_laws.proofs.Numbers.{expired_begins}
 use Rattle.serving_laws.proofs.Lists.{nothing, one}
@@ -151,40 +165,61 @@ left_none old q last entries served (what.Gone conn) h = (h, tt)
 left_none old q last entries served what.Resend h = (h, tt)
 left_none old q last entries served what.Moment h = (h, tt)
 
-grows_same : (boot : ℕ) (m : Msg) (served : List Served) (out : List Letter) (held : Option Held) → GrowsAs boot m served served out held
-grows_same boot (msg.Statement m) served out held = inl refl
-grows_same boot (msg.Answer m) served out held = refl
-grows_same boot (msg.Commit m) served out held = refl
-grows_same boot (msg.Outcome m) served out held = refl
-grows_same boot (msg.Abort m) served out held = refl
-grows_same boot (msg.CommitTwo m) served out held = refl
-grows_same boot (msg.Prepare m) served out held = refl
-grows_same boot (msg.Vote m) served out held = refl
-grows_same boot (msg.Decide m) served out held = refl
-grows_same boot (msg.Acked m) served out held = refl
-grows_same boot (msg.Recover m) served out held = refl
-grows_same boot msg.Nudge served out held = refl
+grows_same : (p q : Part) → NoneBegins p q → (m : Msg) (served : List Served) (out : List Letter) (held : Option Held) → GrowsAs p q m served served out held
+grows_same p q none (msg.Statement m) served out held = inl (refl, none)
+grows_same p q none (msg.Answer m) served out held = refl
+grows_same p q none (msg.Commit m) served out held = refl
+grows_same p q none (msg.Outcome m) served out held = refl
+grows_same p q none (msg.Abort m) served out held = refl
+grows_same p q none (msg.CommitTwo m) served out held = refl
+grows_same p q none (msg.Prepare m) served out held = refl
+grows_same p q none (msg.Vote m) served out held = refl
+grows_same p q none (msg.Decide m) served out held = refl
+grows_same p q none (msg.Acked m) served out held = refl
+grows_same p q none (msg.Recover m) served out held = refl
+grows_same p q none msg.Nudge served out held = refl
 
-stays_by : (boot : ℕ) (m : Msg) (served : List Served) (out : List Envelope) → GrowsBy boot m served served out
-stays_by boot (msg.Statement m) served out = inl refl
-stays_by boot (msg.Answer m) served out = refl
-stays_by boot (msg.Commit m) served out = refl
-stays_by boot (msg.Outcome m) served out = refl
-stays_by boot (msg.Abort m) served out = refl
-stays_by boot (msg.CommitTwo m) served out = refl
-stays_by boot (msg.Prepare m) served out = refl
-stays_by boot (msg.Vote m) served out = refl
-stays_by boot (msg.Decide m) served out = refl
-stays_by boot (msg.Acked m) served out = refl
-stays_by boot (msg.Recover m) served out = refl
-stays_by boot msg.Nudge served out = refl
+stays_by : (p q : Part) → NoneBegins p q → (m : Msg) (served : List Served) (out : List Envelope) → GrowsBy p q m served served out
+stays_by p q none (msg.Statement m) served out = inl (refl, none)
+stays_by p q none (msg.Answer m) served out = refl
+stays_by p q none (msg.Commit m) served out = refl
+stays_by p q none (msg.Outcome m) served out = refl
+stays_by p q none (msg.Abort m) served out = refl
+stays_by p q none (msg.CommitTwo m) served out = refl
+stays_by p q none (msg.Prepare m) served out = refl
+stays_by p q none (msg.Vote m) served out = refl
+stays_by p q none (msg.Decide m) served out = refl
+stays_by p q none (msg.Acked m) served out = refl
+stays_by p q none (msg.Recover m) served out = refl
+stays_by p q none msg.Nudge served out = refl
 
-pub grows_none : (boot : ℕ) (w : Happening) (served : List Served) (out : List Envelope) → Grows boot w served served out
-grows_none boot (what.Deliver e) served out = stays_by boot e.msg served out
-grows_none boot (what.Client conn frame) served out = refl
-grows_none boot (what.Gone conn) served out = refl
-grows_none boot what.Resend served out = refl
-grows_none boot what.Moment served out = refl
+pub grows_none : (p q : Part) → NoneBegins p q → (w : Happening) (served : List Served) (out : List Envelope) → Grows p q w served served out
+grows_none p q none (what.Deliver e) served out = stays_by p q none e.msg served out
+grows_none p q none (what.Client conn frame) served out = refl
+grows_none p q none (what.Gone conn) served out = refl
+grows_none p q none what.Resend served out = refl
+grows_none p q none what.Moment served out = refl
+
+-- Nothing begins where a live transaction is ended for want of memory.
+
+taken_less : (lsid other : Lsid) (live : List (Lsid × Open)) (o : Open) (b : Bool) → Rises lsid_cmp live → same_lsid other lsid ≡ b → entry_of other (taken_out lsid_cmp lsid live) ≡ Some o → entry_of other live ≡ Some o
+taken_less lsid other live o true rises at there =
+    let wrong : None ≡ Some o = sym (live_taken lsid live rises) ∙ ap (λ (l : Lsid). entry_of l (taken_out lsid_cmp lsid live)) (sym (lsid_same other lsid at)) ∙ there in cc
+taken_less lsid other live o false rises apart there = sym (entry_without other lsid apart live) ∙ there
+
+own_none : (p : Part) → Rises lsid_cmp p.live → (lsid : Lsid) (s : Session) (st : SessionState) → NoneBegins p (ends_own p lsid s st)
+own_none p rises lsid s state.Live = λ other o there. taken_less lsid other p.live o (same_lsid other lsid) rises refl there
+own_none p rises lsid s (state.Prepared at coordinator) = λ other o there. there
+own_none p rises lsid s (state.Committed at) = λ other o there. there
+own_none p rises lsid s state.Released = λ other o there. there
+own_none p rises lsid s (state.Aborted why read_at) = λ other o there. there
+
+session_none : (p : Part) → Rises lsid_cmp p.live → (lsid : Lsid) (tag : Tag) (s : Option Session) → NoneBegins p (ends_session p lsid tag s)
+session_none p rises lsid tag None = λ other o there. there
+session_none p rises lsid tag (Some s) = either (same_tag s.tag tag) (NoneBegins p) _ _ (own_none p rises lsid s s.state) (λ other o there. there)
+
+memory_none : (p : Part) → Rises lsid_cmp p.live → (lsid : Lsid) (tag : Tag) → NoneBegins p (ended_for_memory p lsid tag)
+memory_none p rises lsid tag = session_none p rises lsid tag (session p lsid)
 
 -- What is given out.
 
@@ -195,26 +230,26 @@ out_told : (s : ShardState) (told : List Served) (out : List Letter) (held : Opt
 out_told s told out None h = All-map (OutTold told) (sent_by (Shard s.part.shard) s.clock.last) out (All-weaker (InTold told) (λ (l : Letter). OutTold told (sent_by (Shard s.part.shard) s.clock.last l)) (λ l k. k) out h)
 out_told s told out (Some held) h = nothing (OutTold told)
 
-grows_out : (s : ShardState) (m : Msg) (served told : List Served) (out : List Letter) (held : Option Held) → GrowsAs s.part.boot m served told out held → GrowsBy s.part.boot m served told (given_out (answer_of s out held))
-grows_out s (msg.Statement m) served told out held (inl h) = inl h
-grows_out s (msg.Statement m) served told out held (inr h) =
-    let letter : Letter = h.5.0 in
+grows_out : (p : Part) (s : ShardState) (m : Msg) (served told : List Served) (out : List Letter) (held : Option Held) → GrowsAs p s.part m served told out held → GrowsBy p s.part m served told (given_out (answer_of s out held))
+grows_out p s (msg.Statement m) served told out held (inl h) = inl h
+grows_out p s (msg.Statement m) served told out held (inr h) =
+    let letter : Letter = h.7.0 in
     let e : Envelope = sent_by (Shard s.part.shard) s.clock.last letter in
-    let is : given_out (answer_of s out held) ≡ e ∷ [] = ap (λ x. given_out (answer_of s out x)) h.4 ∙ ap (all_sent_by (Shard s.part.shard) s.clock.last) h.5.1 in
-    inr (h.0, h.1, h.2, h.3, (e, is, h.5.2))
-grows_out s (msg.Answer m) served told out held h = h
-grows_out s (msg.Commit m) served told out held h = h
-grows_out s (msg.Outcome m) served told out held h = h
-grows_out s (msg.Abort m) served told out held h = h
-grows_out s (msg.CommitTwo m) served told out held h = h
-grows_out s (msg.Prepare m) served told out held h = h
-grows_out s (msg.Vote m) served told out held h = h
-grows_out s (msg.Decide m) served told out held h = h
-grows_out s (msg.Acked m) served told out held h = h
-grows_out s (msg.Recover m) served told out held h = h
-grows_out s msg.Nudge served told out held h = h
+    let is : given_out (answer_of s out held) ≡ e ∷ [] = ap (λ x. given_out (answer_of s out x)) h.6 ∙ ap (all_sent_by (Shard s.part.shard) s.clock.last) h.7.1 in
+    inr (h.0, h.1, h.2, h.3, h.4, h.5, (e, is, h.7.2))
+grows_out p s (msg.Answer m) served told out held h = h
+grows_out p s (msg.Commit m) served told out held h = h
+grows_out p s (msg.Outcome m) served told out held h = h
+grows_out p s (msg.Abort m) served told out held h = h
+grows_out p s (msg.CommitTwo m) served told out held h = h
+grows_out p s (msg.Prepare m) served told out held h = h
+grows_out p s (msg.Vote m) served told out held h = h
+grows_out p s (msg.Decide m) served told out held h = h
+grows_out p s (msg.Acked m) served told out held h = h
+grows_out p s (msg.Recover m) served told out held h = h
+grows_out p s msg.Nudge served told out held h = h
 
-module _ (s : ShardState) (entries : List Entry) (served : List Served) (opens mid : Opens) (same : SamePrepared opens mid) (t : ShardState) (at : t.clock ≡ s.clock) (part : IsServing t.part mid s.clock.last entries served) where
+module _ (s : ShardState) (entries : List Entry) (served : List Served) (opens mid : Opens) (same : SamePrepared opens mid) (t : ShardState) (at : t.clock ≡ s.clock) (part : IsServing t.part mid s.clock.last entries served) (enters : Enters s.part t.part) where
   holds : Holds opens t.part s.clock.last entries served
   holds = (mid, part, same)
 
@@ -225,7 +260,9 @@ module _ (s : ShardState) (entries : List Entry) (served : List Served) (opens m
         last = s.clock.last;
         rises = grind arith;
         left = left t.part t.clock.last (subst (λ (c : Clock). Holds opens t.part c.last entries served) (sym at) holds);
-        grows = grows_none t.part.boot w served [];
+        entered = t.part;
+        enters = enters;
+        grows = grows_none t.part t.part (λ lsid o there. there) w served [];
         answered = nothing (OutTold served);
       }
 
@@ -237,14 +274,16 @@ module _ (s : ShardState) (entries : List Entry) (served : List Served) (opens m
     far : s.clock.last ≤ (met t e).clock.last
     far = subst (λ (c : Clock). c.last ≤ (met t e).clock.last) at (met_last t e).0
 
-    rule_step : (r : Ruled) → RuleServes mid (met t e).clock.last entries served e.msg r → StepServes opens s (what.Deliver e) entries served (stepped (ceiling_of t e) r)
+    rule_step : (r : Ruled) → RuleServes t.part mid (met t e).clock.last entries served e.msg r → StepServes opens s (what.Deliver e) entries served (stepped (ceiling_of t e) r)
     rule_step r h =
         record {
           told = h.told;
           last = (met t e).clock.last;
           rises = far;
           left = left_from opens mid same r.core.part (met t e).clock.last r.core.clock.last entries h.told e.msg r.rec h.left;
-          grows = grows_out r.core e.msg served h.told r.out r.held h.grows;
+          entered = t.part;
+          enters = enters;
+          grows = grows_out t.part r.core e.msg served h.told r.out r.held h.grows;
           answered = out_told r.core h.told r.out r.held h.out;
         }
 
@@ -258,7 +297,7 @@ module _ (s : ShardState) (entries : List Entry) (served : List Served) (opens m
         (record {
           told = served;
           left = none_left mid (told_memory (met t e) w).core.part (met t e).clock.last entries served e.msg (memory_holds t.part (met t e).clock.last entries served mid mine w.lsid w.tag);
-          grows = grows_same (told_memory (met t e) w).core.part.boot e.msg served (w.letter ∷ []) None;
+          grows = grows_same t.part (told_memory (met t e) w).core.part (memory_none t.part mine.rises w.lsid w.tag) e.msg served (w.letter ∷ []) None;
           out = one (InTold served) w.letter silent;
         })
 
@@ -293,7 +332,9 @@ module _ (s : ShardState) (entries : List Entry) (served : List Served) (opens :
         last = s.clock.last;
         rises = grind arith;
         left = left_none opens s.part s.clock.last entries served w (opens, part, λ tag. refl);
-        grows = grows_none s.part.boot w served (given_out a);
+        entered = s.part;
+        enters = inl refl;
+        grows = grows_none s.part s.part (λ lsid o there. there) w served (given_out a);
         answered = h;
       }
 
@@ -327,25 +368,27 @@ module _ (s : ShardState) (entries : List Entry) (served : List Served) (opens :
 
     happens_step : (w : Happening) → EventComes s.part opens entries served w → StepServes opens s w entries served (happened t w)
     happens_step (what.Deliver e) comes =
-        deliver_step s entries served opens gone.0 gone.2 t refl gone.1 e (msg_comes opens gone.0 gone.2 s.part t.part entries served e.msg (λ m new. expired_begins s.part (max s.wall wall) entries served m new) comes)
-    happens_step (what.Client conn frame) comes = quiet_step s entries served opens gone.0 gone.2 t refl gone.1 (what.Client conn frame) (λ q later h. (h, tt))
-    happens_step (what.Gone conn) comes = quiet_step s entries served opens gone.0 gone.2 t refl gone.1 (what.Gone conn) (λ q later h. (h, tt))
+        deliver_step s entries served opens gone.0 gone.2 t refl gone.1 (inr (max s.wall wall, refl)) e (msg_comes opens gone.0 gone.2 s.part t.part entries served e.msg (λ m new. expired_begins s.part (max s.wall wall) entries served m new) comes)
+    happens_step (what.Client conn frame) comes = quiet_step s entries served opens gone.0 gone.2 t refl gone.1 (inr (max s.wall wall, refl)) (what.Client conn frame) (λ q later h. (h, tt))
+    happens_step (what.Gone conn) comes = quiet_step s entries served opens gone.0 gone.2 t refl gone.1 (inr (max s.wall wall, refl)) (what.Gone conn) (λ q later h. (h, tt))
     happens_step what.Resend comes =
         record {
           told = served;
           last = s.clock.last;
           rises = grind arith;
           left = (gone, tt);
+          entered = t.part;
+          enters = inr (max s.wall wall, refl);
           grows = refl;
           answered = out_told (on_resend t).core served (on_resend t).out None (told_resends served t.part.shard t.coord);
         }
-    happens_step what.Moment comes = quiet_step s entries served opens gone.0 gone.2 t refl gone.1 what.Moment (λ q later h. (h, tt))
+    happens_step what.Moment comes = quiet_step s entries served opens gone.0 gone.2 t refl gone.1 (inr (max s.wall wall, refl)) what.Moment (λ q later h. (h, tt))
 
     told_step : (e : Envelope) (w : Option Wanting) → WantsTold served w → IfStep (StepServes opens s (what.Deliver e) entries served) (option_map (stepped (ceiling_of t e)) (option_and_then (told_if (met t e)) w))
     told_step e None h = tt
     told_step e (Some w) h =
         either (may_be_told (met t e) w) (λ (r : Option Ruled). IfStep (StepServes opens s (what.Deliver e) entries served) (option_map (stepped (ceiling_of t e)) r)) (Some (told_memory (met t e) w)) None
-        (memory_step s entries served opens gone.0 gone.2 t refl gone.1 e w h) tt
+        (memory_step s entries served opens gone.0 gone.2 t refl gone.1 (inr (max s.wall wall, refl)) e w h) tt
 
     scarce_step : (w : Happening) → IfStep (StepServes opens s w entries served) (scarce t w)
     scarce_step (what.Client conn frame) = tt

@@ -44,13 +44,13 @@ live_open boot opens tag (Some o) h none = let wrong = sym none ∙ h.1 in cc
 module _ (p : Part) (opens : Opens) (last : ℕ) (entries : List Entry) (served : List Served) (part : IsServing p opens last entries served) (m : Statement) (reads : m.read_at ≤ last) (alone : elsewhere p m.lsid m.tag ≡ false)
     (new : IsNew p entries served m) (wall : ℕ) where
   abbrev Turns : Turn → Type 0
-  Turns turn = Turned opens last entries served m turn
+  Turns turn = Turned p opens last entries served m turn
 
   by_rules : IsFresh m.tag p.boot opens entries served → Turns (statement p last wall m)
   by_rules fresh = statement_turns p opens last entries served part m (record { reads = reads; alone = alone; fresh = fresh }) wall
 
   stays : (said : Said) → IsAnswered served m said → Turns (said, p)
-  stays said answered = record { told = served; holds = (opens, part, λ tag. refl); grows = inl refl; answered = answered }
+  stays said answered = record { told = served; holds = (opens, part, λ tag. refl); grows = inl (refl, λ lsid o there. there); answered = answered }
 
   to_statement : (x : Option Session) → session p m.lsid ≡ x → Turns (rules.by_session p last wall m x) → Turns (statement p last wall m)
   unfolding statement

@@ -1,5 +1,5 @@
 -- What a shard's step leaves of what holds of its part beside its commits and what was served there.
-use Rattle.std.specs.Prelude.{◌≤◌, ℕ, List, All, Option, Some, None}
+use Rattle.std.specs.Prelude.{◌≡◌, ◌⊎◌, ◌≤◌, ℕ, List, All, Option, Some, None}
 use Rattle.txn_types.specs.declared.event.Happening.{Happening}
 use Rattle.txn_types.specs.declared.event.Happening.TheVariants as what
 use Rattle.txn_types.specs.declared.message.Envelope.{Envelope}
@@ -8,6 +8,7 @@ use Rattle.txn_types.specs.declared.message.Msg.TheVariants as msg
 use Rattle.txn_semantics.specs.declared.commits.Entry.{Entry}
 use Rattle.journal_rec.specs.declared.record.Rec.{Rec}
 use Rattle.journal_rec.specs.declared.record.Rec.TheVariants as rec
+use Rattle.participant.specs.Expiry.{expire}
 use Rattle.participant.specs.Part.{Part}
 use Rattle.part_laws.specs.Sound.{Opens, Served}
 use Rattle.part_laws.specs.Parts.{Holds, HoldsBut}
@@ -48,11 +49,17 @@ abbrev pub Left : Opens → Part → ℕ → ℕ → List Entry → List Served 
 Left old q last later entries told (what.Deliver e) recorded = LeftBy old q last later entries told e.msg recorded
 Left old q last later entries told other recorded = Holds old q later entries told × NoneButCoord recorded
 
+-- at its event a shard first ends what expired, if anything
+abbrev pub Enters : Part → Part → Type 0
+Enters p entered = (entered ≡ p) ⊎ ((wall : ℕ) × (entered ≡ expire p wall))
+
 -- behind a step: what was served, with at most one statement more; the clock when its message had come; and what is left
 pub record StepServes (old : Opens) (s : ShardState) (w : Happening) (entries : List Entry) (served : List Served) (o : CoreStep) : Type 0 where
   pub told : List Served
   pub last : ℕ
   pub rises : s.clock.last ≤ last
   pub left : Left old o.core.part last o.core.clock.last entries told w o.rec
-  pub grows : Grows o.core.part.boot w served told (given_out o.answer)
+  pub entered : Part
+  pub enters : Enters s.part entered
+  pub grows : Grows entered o.core.part w served told (given_out o.answer)
   pub answered : All (λ (e : Envelope). IsToldBy told e.msg) (given_out o.answer)

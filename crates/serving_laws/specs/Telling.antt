@@ -1,5 +1,5 @@
 -- What a shard's Answers tell of the statements that were served there.
-use Rattle.std.specs.Prelude.{◌≡◌, ◌⊎◌, ℕ, List, [], ◌∷◌, Result, Ok, Err, Bool}
+use Rattle.std.specs.Prelude.{◌≡◌, ◌⊎◌, List, [], ◌∷◌, Result, Ok, Err, Bool}
 use Rattle.txn_types.specs.declared.cause.Cause.{Cause}
 use Rattle.txn_types.specs.declared.cause.Cause.TheVariants as cause
 use Rattle.txn_types.specs.declared.event.Happening.{Happening}
@@ -13,7 +13,8 @@ use Rattle.txn_semantics.specs.Meaning.{Meaning, reply_of}
 use Rattle.part_laws.specs.Each.{Among}
 use Rattle.part_laws.specs.Sound.{Served}
 use Rattle.part_laws.specs.Parts.{IsRefusedBy}
-use Rattle.part_laws.specs.Turned.{IsOf}
+use Rattle.participant.specs.Part.{Part}
+use Rattle.part_laws.specs.Turned.{IsOf, NoneBegins, IsAnew, LivesFor}
 
 -- an Answer's outcome tells this meaning: its reply, or its refusal
 abbrev pub TellsRefusal : Meaning → Cause → Type 0
@@ -50,13 +51,15 @@ abbrev pub IsToldBy : List Served → Msg → Type 0
 IsToldBy served (msg.Answer a) = ToldThere served a a.outcome
 IsToldBy served other = Unit {0}
 
--- What a step adds to what was served: nothing, or the statement that was delivered, in this boot, whose Answer is all that
--- it gives out.
+-- What a step adds to what was served, from this part to that: nothing, and nothing more is live; or the statement that was
+-- delivered, served anew in this boot, whose Answer is all that it gives out.
 
-abbrev pub GrowsBy : ℕ → Msg → List Served → List Served → List Envelope → Type 0
-GrowsBy boot (msg.Statement m) served told out = (told ≡ served) ⊎ ((x : Served) × (told ≡ x ∷ served) × IsOf m x × (x.life ≡ boot) × ((e : Envelope) × (out ≡ e ∷ []) × AnswersTo x e.msg))
-GrowsBy boot other served told out = told ≡ served
+abbrev pub GrowsBy : Part → Part → Msg → List Served → List Served → List Envelope → Type 0
+GrowsBy p q (msg.Statement m) served told out =
+    ((told ≡ served) × NoneBegins p q)
+    ⊎ ((x : Served) × (told ≡ x ∷ served) × IsOf m x × (x.life ≡ q.boot) × IsAnew p m × LivesFor p q m.lsid x × ((e : Envelope) × (out ≡ e ∷ []) × AnswersTo x e.msg))
+GrowsBy p q other served told out = told ≡ served
 
-abbrev pub Grows : ℕ → Happening → List Served → List Served → List Envelope → Type 0
-Grows boot (what.Deliver e) served told out = GrowsBy boot e.msg served told out
-Grows boot other served told out = told ≡ served
+abbrev pub Grows : Part → Part → Happening → List Served → List Served → List Envelope → Type 0
+Grows p q (what.Deliver e) served told out = GrowsBy p q e.msg served told out
+Grows p q other served told out = told ≡ served

@@ -1,0 +1,3 @@
+mod Causes
+mod Steps
+pub mod Standing

@@ -1,0 +1,12 @@
+mod Lists
+mod Quiet
+mod Moves
+mod Standing
+mod Booking
+mod Opening
+mod Taking
+mod Answering
+mod Running
+mod Placed
+mod OneShard
+mod Requests
