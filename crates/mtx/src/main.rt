@@ -1,6 +1,7 @@
 //! `mtx play` reads a schedule from standard input: clients' messages, and what happens between the nodes of a cluster. It
 //! writes the replies and the list of commits to standard output.
 #![tactic(auto)]
+
 ghost use Rattle.std.specs.Prelude.{◌≡◌, ◌≤◌, vec_len, IfOk, OnOk};
 
 pub mod laws;
@@ -24,6 +25,7 @@ const USAGE: &str = "usage: mtx play < SCHEDULE";
 
 /// How many bytes the disk in memory of a shard holds, and of a router.
 const SHARD_BYTES: usize = 2_097_152;
+
 const ROUTER_BYTES: usize = 65_536;
 
 /// How many bytes a word may have; none of a command is so long.

@@ -6,7 +6,6 @@ use Rattle.play_script.proofs.LineParts.{lines_of-nil}
 use Rattle.mtx.specs.Choice.{has_clients_alone}
 use Rattle.mtx.proofs.offline.has_clients_alone.Goals as goal
 
-
 pub returns : goal.returns
 returns c =
     let none : c.loop-rest.rest.now ≡ [] = nil_from_length c.loop-rest.rest.now (eqb-true _ _ (sym c.is_empty.ensures ∙ c.loop-rest-test.false)) in

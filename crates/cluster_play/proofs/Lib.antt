@@ -1,0 +1,9 @@
+mod Texts
+mod Turns
+mod Starts
+mod Places
+mod Fronts
+mod Leaving
+mod Doing
+mod Endings
+mod Restarts

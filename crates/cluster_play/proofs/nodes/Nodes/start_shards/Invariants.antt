@@ -1,0 +1,13 @@
+use Rattle.std.proofs.Common.{◌≡◌, ◌≤◌, ◌+◌, vec_len, vec_capacity}
+use Rattle.cluster_play.specs.Starting.{AllStarted, shard_states}
+use Rattle.cluster_play.proofs.nodes.Nodes.start_shards.Given as goal
+
+abbrev pub invariant-loop-shard : goal.invariant-loop-shard
+invariant-loop-shard g l = record {
+  started : AllStarted (shard_states l.self.shards.items);
+  count : vec_len l.self.shards ≡ l.shard;
+  all : vec_len l.disks + vec_len l.self.shards ≡ 24;
+  capacity : vec_capacity l.self.shards ≡ vec_capacity l.initial.self.shards;
+  room : vec_capacity l.initial.disks ≤ vec_capacity l.disks;
+  routers : l.self.routers ≡ l.initial.self.routers;
+}

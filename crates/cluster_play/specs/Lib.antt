@@ -1,0 +1,5 @@
+pub mod Schedule
+pub mod Plays
+pub mod Ended
+pub mod Starting
+pub mod Steps
