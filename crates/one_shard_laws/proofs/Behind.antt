@@ -232,7 +232,8 @@ answer_least : (x : Served) (m : Statement) (q : Part) (a : Msg) → AnswersTo x
 answer_least x m q (msg.Answer a) h k = k (served_by x.meaning a.outcome h.outcome)
 answer_least x m q other h k = absurd h
 
-module _ (sent : List Envelope) (served told : List Served) (p q : Part) (same : p.boot ≡ q.boot) where
+module _ (sent : List Envelope) (served told : List Served) (p q : Part)
+    (same : p.boot ≡ q.boot) where
   abbrev P : Named → Type 0
   P = WasNamed sent
 
@@ -411,7 +412,8 @@ module _ (sent : List Envelope) (once : IsOnce (WasNamed sent)) (room : Room) (s
       (λ (more : (x : Served) × (serves.told ≡ x ∷ served) × WasAsked sent x
       × (x.life ≡ o.core.part.boot) × IsHeld M o.core.part.sessions x.tag).
       subst (Each Q) (sym more.1) (k more.0 more.2 more.3 more.4, h))
-      (grew sent served serves.told serves.entered o.core.part same_boot e.what (given_out o.answer) comes serves.grows
+      (grew sent served serves.told serves.entered o.core.part same_boot e.what (given_out o.answer)
+      comes serves.grows
       does.served)
 
   told_still : All (InTold serves.told) sent
@@ -421,7 +423,8 @@ module _ (sent : List Envelope) (once : IsOnce (WasNamed sent)) (room : Room) (s
       (λ (more : (x : Served) × (serves.told ≡ x ∷ served) × WasAsked sent x × (x.life
       ≡ o.core.part.boot) × IsHeld M o.core.part.sessions x.tag). subst (λ (told : List Served).
       All (InTold told) sent) (sym more.1) (all_told_more more.0 served sent l.told))
-      (grew sent served serves.told serves.entered o.core.part same_boot e.what (given_out o.answer) comes serves.grows
+      (grew sent served serves.told serves.entered o.core.part same_boot e.what (given_out o.answer)
+      comes serves.grows
       does.served)
 
   held_still : (tag : Tag) → IsHeld M s.part.sessions tag → IsHeld M o.core.part.sessions tag

@@ -1,30 +1,25 @@
 -- What stands of opened statements is kept by a step that asks none and takes no answer, and by the
 -- end of a connection.
-use Rattle.std.proofs.Common.{◌≡◌, ◌⊎◌, inl, inr, ◌+◌, ◌≤◌, ◌<◌, ◌&&◌, ℕ, Bool, true, false, not, All, List, [], ◌∷◌, ◌++◌, filter, nat_eq, Option, Some, None, refl, sym, ap, subst, ◌∙◌, arith}
+use Rattle.std.proofs.Common.{◌≡◌, ◌⊎◌, inl, inr, ◌&&◌, ℕ, Bool, true, false, not, List, filter, nat_eq, Option, Some, None, refl, sym, ap, subst, ◌∙◌, arith}
 use Rattle.std.specs.Prelude.{Contains, slice_get, slice_set}
 use Rattle.std.proofs.lemmas.List.Elements.{All-filter}
-use Rattle.txn_types.specs.declared.message.Answer.{Answer}
 use Rattle.txn_types.specs.declared.names.Tag.{Tag}
 use Rattle.txn_types.specs.declared.node.Lsid.{Lsid}
-use Rattle.txn_types.specs.declared.operation.Op.{Op}
 use Rattle.txn_semantics.specs.declared.commits.Answered.{Answered}
-use Rattle.router_state.specs.declared.state.Asker.{Asker}
 use Rattle.router_state.specs.declared.state.Doing.{Doing}
 use Rattle.router_state.specs.declared.state.Doing.TheVariants.{Begun, Sought}
-use Rattle.router_state.specs.declared.state.Phase.{Phase}
-use Rattle.router_state.specs.declared.state.Phase.TheVariants.{Idle, Asking, Checking, Deciding, Committed, Released, Aborted}
 use Rattle.router_state.specs.declared.state.Session.{Session}
 use Rattle.router_state.specs.declared.state.Transaction.{Transaction}
-use Rattle.router_state.specs.State.{RouterState, session_of, fresh_router}
+use Rattle.router_state.specs.State.{RouterState, session_of}
 use Rattle.cluster_core.specs.Answering.{Unanswered}
 use Rattle.cluster_core.specs.Parts.{WasDrawn}
 use Rattle.cluster_core.specs.Trace.{again}
 use Rattle.world_laws.specs.Begins.{Kept}
 use Rattle.told_laws.specs.Places.{HasReply}
-use Rattle.told_laws.proofs.Lists.{filter_has, has_filter, order_filter, set_cases, not_same, same_nat}
-use Rattle.told_laws.proofs.Quiet.{Quiet, QuietDoing, DoingNotFrom, NotFrom}
+use Rattle.told_laws.proofs.Lists.{filter_has, has_filter, order_filter, set_cases, not_same}
+use Rattle.told_laws.proofs.Quiet.{QuietDoing, DoingNotFrom, NotFrom}
 use Rattle.told_laws.proofs.Moves.{QuietFrom, AllQuiet, IsOwn}
-use Rattle.told_laws.proofs.Standing.{Asked, PhaseStands, TxnStands, DoingStands, SameTag, RouterStands, AreApart, IsOpen, ListsStand, BookStands, GoOn, txn_on, quiet_stands, own_on, drawn_on}
+use Rattle.told_laws.proofs.Standing.{DoingStands, SameTag, RouterStands, AreApart, IsOpen, ListsStand, BookStands, txn_on, quiet_stands, own_on, drawn_on}
 
 -- Each transaction that is begun behind a step was begun before it.
 

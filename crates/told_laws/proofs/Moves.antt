@@ -1,6 +1,6 @@
 -- What an event does at a router, session by session: each goes on quietly, or one asks a
 -- statement.
-use Rattle.std.proofs.Common.{◌≡◌, ◌⊎◌, inl, inr, ◌+◌, ◌≤◌, ◌&&◌, ◌||◌, ℕ, ℤ, Bool, true, false, not, All, List, [], ◌∷◌, nat_eq, int_lt, option_map, Option, Some, None, Result, Ok, Err, refl, sym, ap, subst, ◌∙◌, arith}
+use Rattle.std.proofs.Common.{◌≡◌, ◌⊎◌, inl, inr, ◌+◌, ◌≤◌, ◌||◌, ℕ, ℤ, Bool, true, false, not, List, [], ◌∷◌, option_map, Option, Some, None, refl, sym, ap, subst, ◌∙◌, arith}
 use Rattle.std.specs.List.{list_any}
 use Rattle.std.proofs.lemmas.List.Elements.{All-nil, All-append}
 use Rattle.txn_types.specs.BySession.{BySession, entry_of}
@@ -10,13 +10,11 @@ use Rattle.txn_types.specs.declared.decision.Token.TheVariants as token
 use Rattle.txn_types.specs.declared.names.Tag.{Tag}
 use Rattle.txn_types.specs.declared.node.Lsid.{Lsid}
 use Rattle.txn_types.specs.declared.operation.Op.{Op}
-use Rattle.txn_semantics.specs.Touched.{first_some}
 use Rattle.client_cmd.specs.declared.request.Request.{Request}
 use Rattle.client_cmd.specs.declared.request.Request.TheVariants as request
 use Rattle.client_cmd.specs.declared.request.Txn.{Txn}
 use Rattle.client_reply.specs.declared.reply.Refusal.TheVariants as refusal
 use Rattle.client_reply.specs.declared.reply.Reply.{Reply}
-use Rattle.chunk_map.specs.Parts.{shards_of}
 use Rattle.router_state.specs.declared.deed.Deed.{Deed}
 use Rattle.router_state.specs.declared.state.Asker.{Asker}
 use Rattle.router_state.specs.declared.state.Doing.{Doing}
@@ -27,7 +25,7 @@ use Rattle.router_state.specs.declared.state.Seeking.{Seeking}
 use Rattle.router_state.specs.declared.state.Session.{Session}
 use Rattle.router_state.specs.declared.state.Transaction.{Transaction}
 use Rattle.router_state.specs.Deeds.{Move, still, answers, done_in, each_session, in_each_session}
-use Rattle.router_state.specs.State.{Post, RouterState, session_of, is_waiting, is_from, asker_of, asker_in, commit_sent}
+use Rattle.router_state.specs.State.{RouterState, session_of, is_waiting, is_from, asker_of, asker_in, commit_sent}
 use Rattle.router_rules.specs.Ends as en
 use Rattle.router_rules.specs.Statements as st
 use Rattle.router_rules.specs.Times.{met}

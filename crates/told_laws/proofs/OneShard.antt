@@ -1,24 +1,22 @@
 -- On one shard a statement's part is the statement, and what is told of one Answer is what it
 -- tells.
-use Rattle.std.proofs.Common.{◌≡◌, ◌+◌, ◌<◌, ◌≤◌, ℕ, Bool, true, false, not, All, List, [], ◌∷◌, ◌++◌, map, filter, min, Option, Some, None, is_some, Result, Ok, Err, nat_eq, nat_lt, refl, sym, ap, ap₂, subst, ◌∙◌, arith, if◌then◌else◌}
+use Rattle.std.proofs.Common.{◌≡◌, ◌+◌, ◌<◌, ℕ, Bool, true, false, All, List, [], ◌∷◌, ◌++◌, filter, Option, Some, None, is_some, Ok, Err, nat_eq, nat_lt, refl, sym, ap, ap₂, ◌∙◌, arith, if◌then◌else◌}
 use Rattle.std.specs.Option.{option_or}
 use Rattle.std.proofs.lemmas.Bool.{ltb-true}
 use Rattle.std.proofs.lemmas.List.Elements.{All-head, All-tail}
 use Rattle.txn_types.specs.Ids.{id_in}
-use Rattle.txn_types.specs.declared.filter.Filter.{Filter}
 use Rattle.txn_types.specs.declared.id.Id.{Id}
 use Rattle.txn_types.specs.declared.operation.InsertItem.{InsertItem}
 use Rattle.txn_types.specs.declared.operation.Op.{Op}
 use Rattle.txn_types.specs.declared.operation.Op.TheVariants.{Insert, Find, Update, Delete}
-use Rattle.txn_types.specs.declared.operation.OpErr.{OpErr}
 use Rattle.txn_types.specs.declared.operation.OpReply.{OpReply}
-use Rattle.txn_types.specs.declared.operation.OpReply.TheVariants.{Count, Rows}
+use Rattle.txn_types.specs.declared.operation.OpReply.TheVariants.{Count}
 use Rattle.txn_types.specs.declared.write.Write.{Write}
-use Rattle.txn_semantics.specs.Effect.{Words, Done, Doing, AreKnown, matching}
-use Rattle.txn_semantics.specs.Meaning.{Meaning, capped, eval, eval_by, meaning_of, count_met, count_both, reply_of, words, ns_of}
+use Rattle.txn_semantics.specs.Effect.{Doing, AreKnown, matching}
+use Rattle.txn_semantics.specs.Meaning.{capped, eval, meaning_of, count_met, count_both, reply_of, words}
 use Rattle.txn_semantics.specs.Merge.{merge, merge_counts}
 use Rattle.txn_semantics.specs.Rows.{Row, IsRising, at}
-use Rattle.txn_semantics.specs.Splits.{here, goes, outcome, AreOnce, part_of, parts_of}
+use Rattle.txn_semantics.specs.Splits.{here, goes, outcome, AreOnce}
 use Rattle.txn_semantics.proofs.Whole.{replies_merge}
 use Rattle.chunk_map.specs.Map.{Map, IsMap, ranges_of, last_range, beginning_fault, row_fault, fault_behind}
 use Rattle.chunk_map.specs.Parts.{part_at}

@@ -1,12 +1,11 @@
 -- What stands of opened statements is kept by a step that asks one.
-use Rattle.std.proofs.Common.{◌≡◌, ◌⊎◌, inl, inr, ◌+◌, ◌≤◌, ◌<◌, ◌&&◌, ◌||◌, ℕ, ℤ, Bool, true, false, not, All, List, [], ◌∷◌, ◌++◌, map, length, nat_eq, Option, Some, None, refl, sym, ap, ap₂, subst, ◌∙◌, arith}
-use Rattle.std.specs.Prelude.{Contains, slice_get, slice_set, flat_map, filter_map, option_map}
+use Rattle.std.proofs.Common.{◌≡◌, ◌⊎◌, inl, inr, ◌+◌, ◌≤◌, ◌<◌, ◌&&◌, ◌||◌, ℕ, ℤ, Bool, true, false, not, List, [], ◌∷◌, ◌++◌, map, length, nat_eq, Some, None, refl, sym, ap, ap₂, subst, ◌∙◌, arith}
+use Rattle.std.specs.Prelude.{Contains, slice_set, flat_map, filter_map, option_map}
 use Rattle.std.specs.List.{list_any}
 use Rattle.std.proofs.lemmas.List.{append-nil, length-map}
-use Rattle.std.proofs.lemmas.List.Elements.{All-weaker, All-push, All-contains, Contains-append_left, Contains-append_right, Contains-append_cases, Contains-push, Contains-push_cases}
+use Rattle.std.proofs.lemmas.List.Elements.{All-weaker, All-push, All-contains, Contains-append_left, Contains-append_cases, Contains-push, Contains-push_cases}
 use Rattle.txn_types.specs.Ids.{id_in}
 use Rattle.txn_types.specs.Order.{same_lsid}
-use Rattle.txn_types.specs.declared.message.Answer.{Answer}
 use Rattle.txn_types.specs.declared.message.Statement.{Statement}
 use Rattle.txn_types.specs.declared.names.Tag.{Tag}
 use Rattle.txn_types.specs.declared.node.Lsid.{Lsid}
@@ -40,7 +39,7 @@ use Rattle.answer_laws.proofs.Sending.{part_for, firsts}
 use Rattle.told_laws.specs.Places.{Rises, HasReply, IsOpened}
 use Rattle.told_laws.proofs.Lists.{order_more, only_one, not_same, same_nat}
 use Rattle.told_laws.proofs.Moves.{AsksOne, IsIdleIn, IsOwn}
-use Rattle.told_laws.proofs.Standing.{AllReplied, OnceIn, has_answer, IsAsked, TxnStands, DoingStands, SameTag, RouterStands, AreApart, IsOpen, ListsStand, BookStands, txn_on, replied_if, own_on, drawn_on}
+use Rattle.told_laws.proofs.Standing.{OnceIn, has_answer, IsAsked, TxnStands, DoingStands, SameTag, RouterStands, AreApart, IsOpen, ListsStand, BookStands, txn_on, replied_if, own_on, drawn_on}
 use Rattle.told_laws.proofs.Booking.{Alone, same_tag_of, Changes, book_step}
 
 -- The shards of a statement.

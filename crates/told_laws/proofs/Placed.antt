@@ -1,7 +1,6 @@
 -- The places of statements, behind each run.
-use Rattle.std.proofs.Common.{◌≡◌, ◌⊎◌, inl, inr, ◌<◌, ℕ, List, sym, arith}
+use Rattle.std.proofs.Common.{◌≡◌, inl, inr, ◌<◌, List, sym, arith}
 use Rattle.std.specs.Prelude.{Contains, AllPairs}
-use Rattle.txn_semantics.specs.declared.commits.Answered.{Answered}
 use Rattle.chunk_map.specs.Map.{Map}
 use Rattle.txn_model.specs.declared.ran.Ran.{Ran}
 use Rattle.cluster_core.specs.Answering.{Unanswered}

@@ -1,7 +1,7 @@
 -- How a session's transaction goes on where none of its statements is asked or answered: it keeps
 -- its tag and the place of
 -- its newest statement, and an unanswered statement stays so, or the transaction is aborted.
-use Rattle.std.proofs.Common.{◌≡◌, ◌&&◌, ℕ, ℤ, Bool, true, false, not, List, [], ◌∷◌, length, nat_eq, int_lt, is_none, Option, Some, None, refl, sym, ap, subst, ◌∙◌, arith}
+use Rattle.std.proofs.Common.{◌≡◌, ◌&&◌, ℕ, ℤ, Bool, true, false, not, List, [], ◌∷◌, length, nat_eq, int_lt, is_none, Option, Some, None, refl, sym, subst, ◌∙◌}
 use Rattle.txn_types.specs.Order.{same_tag}
 use Rattle.txn_types.specs.declared.decision.Told.{Told}
 use Rattle.txn_types.specs.declared.decision.Told.TheVariants as told_as

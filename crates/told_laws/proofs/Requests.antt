@@ -1,5 +1,5 @@
 -- The documents of a request have ids, and so have those of each statement that a router opened.
-use Rattle.std.proofs.Common.{◌≡◌, ◌+◌, max, ℕ, Bool, true, false, All, List, [], ◌∷◌, ◌++◌, cond, Option, Some, None, is_some, Result, Ok, Err, refl, sym, ap, subst, ◌∙◌, arith, if◌then◌else◌}
+use Rattle.std.proofs.Common.{◌≡◌, ◌+◌, max, ℕ, Bool, true, false, All, List, [], ◌∷◌, ◌++◌, cond, Option, Some, None, is_some, Result, Ok, Err, refl, ap, subst, if◌then◌else◌}
 use Rattle.std.specs.Prelude.{slice_get}
 use Rattle.std.proofs.lemmas.List.Elements.{All-nil, All-cons, All-append}
 use Rattle.bson_core.specs.Fields.{Document}
@@ -33,7 +33,6 @@ use Rattle.client_cmd.specs.Commands as cmd
 use Rattle.client_cmd.specs.declared.error.CmdErr.{CmdErr}
 use Rattle.client_cmd.specs.declared.request.Request.{Request}
 use Rattle.client_cmd.specs.declared.request.Request.TheVariants as request
-use Rattle.client_cmd.specs.declared.request.Txn.{Txn}
 use Rattle.router_plan.specs.Messages as messages
 use Rattle.router_plan.specs.declared.message.Unserved.{Unserved}
 use Rattle.router_state.specs.State.{RouterState, is_waiting}

@@ -1,6 +1,6 @@
 -- What stands of opened statements is kept by each event, and so stands behind each run.
-use Rattle.std.proofs.Common.{◌≡◌, ◌⊎◌, inl, inr, max, ◌&&◌, ℕ, Bool, true, false, not, All, List, [], ◌∷◌, ◌++◌, map, filter, nat_eq, Option, Some, None, Result, Ok, Err, refl, sym, ap, ap₂, subst, ◌∙◌, arith, if◌then◌else◌}
-use Rattle.std.specs.Prelude.{Contains, slice_get, slice_set, filter_map}
+use Rattle.std.proofs.Common.{◌≡◌, inl, inr, ◌&&◌, ℕ, Bool, true, false, All, List, [], ◌∷◌, ◌++◌, map, Option, Some, None, Result, Ok, Err, refl, sym, ap, ap₂, subst, ◌∙◌, arith, if◌then◌else◌}
+use Rattle.std.specs.Prelude.{slice_get, slice_set}
 use Rattle.std.proofs.lemmas.List.{append-nil, append_assoc}
 use Rattle.std.proofs.lemmas.List.Elements.{All-nil, All-head, All-tail, All-weaker}
 use Rattle.txn_types.specs.BySession.{BySession, entry_of}
@@ -11,7 +11,6 @@ use Rattle.txn_types.specs.declared.event.NodeEvent.{NodeEvent}
 use Rattle.txn_types.specs.declared.message.Msg.{Msg}
 use Rattle.txn_types.specs.declared.message.Msg.TheVariants as msg
 use Rattle.txn_types.specs.declared.message.Statement.{Statement}
-use Rattle.txn_types.specs.declared.node.Lsid.{Lsid}
 use Rattle.txn_types.specs.declared.node.NodeId.{NodeId}
 use Rattle.txn_types.specs.declared.node.NodeId.TheVariants.{Shard, Router}
 use Rattle.txn_types.specs.declared.operation.Op.{Op}
@@ -23,7 +22,7 @@ use Rattle.chunk_map.specs.Map.{Map}
 use Rattle.chunk_map.specs.Parts.{shards_of}
 use Rattle.router_state.specs.declared.state.Session.{Session}
 use Rattle.router_state.specs.Deeds.{Move, still, in_each_session}
-use Rattle.router_state.specs.State.{Post, RouterState, session_of, is_waiting, fresh_router}
+use Rattle.router_state.specs.State.{Post, RouterState, is_waiting, fresh_router}
 use Rattle.router_rules.specs.Ends.{gone_from}
 use Rattle.router_rules.specs.Serving.{answered_in as takes_answer, ended_in}
 use Rattle.router_rules.specs.Times.{walled, timed, met}
@@ -34,8 +33,8 @@ use Rattle.router_core.specs.Requests as rq
 use Rattle.router_core.specs.Step as sp
 use Rattle.txn_model.specs.declared.ran.Ran.{Ran}
 use Rattle.txn_model.specs.declared.ran.Ran.TheVariants.{Step, Swapped}
-use Rattle.cluster_core.specs.Answering.{Unanswered, is_complete, all_say, answered_of, answered_among, left_unanswered, taken_msg, taken_what, opened, opened_by, statements_in}
-use Rattle.cluster_core.specs.Ledger.{Ledger, Entered, fresh_ledger, ledger_behind, answered_from, entered, entered_at, entered_by, passed, swapped}
+use Rattle.cluster_core.specs.Answering.{Unanswered, is_complete, all_say, answered_among, left_unanswered, taken_msg, taken_what, opened, opened_by, statements_in}
+use Rattle.cluster_core.specs.Ledger.{Ledger, Entered, fresh_ledger, ledger_behind, answered_from, entered, entered_by, passed, swapped}
 use Rattle.cluster_core.specs.Nodes.{Nodes}
 use Rattle.cluster_core.specs.Routers.{asked_by, request_at}
 use Rattle.cluster_core.specs.Trace.{Happens, IsTrace, IsFresh, RouterSteps, again}
@@ -45,9 +44,9 @@ use Rattle.answer_laws.proofs.Lists.{set_same}
 use Rattle.answer_laws.proofs.Sending.{parts_from, part_for, parts_are, skipped, told_by}
 use Rattle.told_laws.specs.Places.{IsOpened}
 use Rattle.told_laws.proofs.Quiet.{DoingNotFrom, ended_quiet, gone_quiet}
-use Rattle.told_laws.proofs.Moves.{QuietFrom, AllQuiet, QuietMove, AsksOne, MayAskOne, IsOther, all_self, each_from, each_quiet, quiet_still, statement_asks, others_quiet}
+use Rattle.told_laws.proofs.Moves.{QuietFrom, AllQuiet, QuietMove, AsksOne, MayAskOne, all_self, each_from, each_quiet, quiet_still, statement_asks, others_quiet}
 use Rattle.told_laws.proofs.Standing.{RouterStands, IsOpen, ListsStand, BookStands}
-use Rattle.told_laws.proofs.Booking.{Alone, quiet_router, quiet_book, gone_book, again_book}
+use Rattle.told_laws.proofs.Booking.{quiet_router, quiet_book, gone_book, again_book}
 use Rattle.told_laws.proofs.Opening.{news_of, asks_book}
 use Rattle.told_laws.proofs.Answering.{answer_book}
 

@@ -1,7 +1,7 @@
 -- What stands of the statements that routers opened, beside their sessions and the answers that
 -- were taken: a session's
 -- transaction has had a reply to each of its statements, but for the one that is asked.
-use Rattle.std.proofs.Common.{◌≡◌, ◌⊎◌, inl, inr, ◌+◌, ◌≤◌, ◌<◌, ◌&&◌, ℕ, Bool, true, false, not, All, List, [], ◌∷◌, ◌++◌, length, nat_eq, Option, Some, None, refl, sym, ap, subst, ◌∙◌, arith}
+use Rattle.std.proofs.Common.{◌≡◌, ◌⊎◌, inl, inr, ◌+◌, ◌≤◌, ◌<◌, ◌&&◌, ℕ, Bool, false, not, All, List, [], ◌∷◌, ◌++◌, length, nat_eq, Some, refl, sym, ap, subst, ◌∙◌, arith}
 use Rattle.std.specs.Prelude.{Contains, slice_get}
 use Rattle.std.specs.List.{list_any}
 use Rattle.std.proofs.lemmas.List.Elements.{Contains-append_left}
@@ -23,8 +23,8 @@ use Rattle.cluster_core.specs.Parts.{WasDrawn}
 use Rattle.answer_laws.specs.Comes.{as_opened}
 use Rattle.told_laws.specs.Places.{Rises, IsLater, HasReply, IsOpened}
 use Rattle.told_laws.proofs.Lists.{InOrder}
-use Rattle.told_laws.proofs.Quiet.{IsSettled, Quiet, QuietPhase, QuietDoing}
-use Rattle.told_laws.proofs.Moves.{QuietFrom, AllQuiet, IsOwn}
+use Rattle.told_laws.proofs.Quiet.{IsSettled, Quiet, QuietPhase}
+use Rattle.told_laws.proofs.Moves.{IsOwn}
 
 -- each statement of the transaction has had its reply
 abbrev pub AllReplied : List Unanswered → List Answered → Tag → Type 0

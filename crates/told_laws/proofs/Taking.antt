@@ -1,13 +1,11 @@
 -- An Answer that a router takes: the statement that is asked takes it too; and where it was the
 -- last, the statement is answered.
-use Rattle.std.proofs.Common.{◌≡◌, ◌⊎◌, inl, inr, ◌+◌, ◌≤◌, ◌<◌, ◌&&◌, ◌||◌, ℕ, ℤ, Bool, true, false, not, All, List, [], ◌∷◌, ◌++◌, map, filter, filter_map, find, length, nat_eq, is_some, Option, Some, None, option_map, Ok, Err, Result, refl, sym, ap, ap₂, subst, ◌∙◌, arith}
-use Rattle.std.specs.Prelude.{Contains, slice_get, slice_set, IsOk}
+use Rattle.std.proofs.Common.{◌≡◌, ◌+◌, ◌&&◌, ◌||◌, ℕ, Bool, true, false, not, List, [], ◌∷◌, filter_map, find, length, nat_eq, is_some, Option, Some, None, option_map, Ok, Err, Result, refl, sym, ap, ap₂, ◌∙◌, arith}
 use Rattle.std.specs.List.{list_any, list_all}
 use Rattle.std.specs.Option.{option_or}
 use Rattle.std.specs.Ordering.{nat_cmp}
 use Rattle.std.specs.declared.cmp.Ordering.{Ordering}
 use Rattle.std.specs.declared.cmp.Ordering.TheVariants.{Less, Equal, Greater}
-use Rattle.txn_types.specs.Order.{same_tag}
 use Rattle.txn_types.specs.declared.cause.Cause.{Cause}
 use Rattle.txn_types.specs.declared.cause.Cause.TheVariants as cause
 use Rattle.txn_types.specs.declared.message.Answer.{Answer}
@@ -15,7 +13,7 @@ use Rattle.txn_types.specs.declared.operation.Op.{Op}
 use Rattle.txn_types.specs.declared.operation.OpErr.{OpErr}
 use Rattle.txn_types.specs.declared.operation.OpReply.{OpReply}
 use Rattle.txn_semantics.specs.Keyed.{put}
-use Rattle.txn_semantics.specs.Meaning.{Meaning, words}
+use Rattle.txn_semantics.specs.Meaning.{words}
 use Rattle.txn_semantics.specs.Merge.{merge}
 use Rattle.txn_semantics.specs.Splits as sp
 use Rattle.router_state.specs.State.{Post, is_waited, without}
@@ -23,7 +21,7 @@ use Rattle.router_rules.specs.Statements as st
 use Rattle.router_rules.proofs.Writing.{exact}
 use Rattle.cluster_core.specs.Answering.{meaning_in}
 use Rattle.answer_laws.proofs.Lists.{nat_is}
-use Rattle.told_laws.proofs.Lists.{not_same, same_nat}
+use Rattle.told_laws.proofs.Lists.{same_nat}
 use Rattle.told_laws.proofs.Standing.{OnceIn, has_answer}
 
 -- What is waited for, behind an answer.

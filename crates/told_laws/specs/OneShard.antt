@@ -1,5 +1,5 @@
 -- What is asked of an operation beside what a map of one shard says of it.
-use Rattle.std.specs.Prelude.{◌≡◌, List, All, is_some, true}
+use Rattle.std.specs.Prelude.{◌≡◌, All, is_some, true}
 use Rattle.txn_types.specs.Ids.{id_in}
 use Rattle.txn_types.specs.declared.operation.Op.{Op}
 use Rattle.txn_types.specs.declared.operation.Op.TheVariants.{Insert, Find, Update, Delete}
