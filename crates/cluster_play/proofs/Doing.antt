@@ -1,11 +1,8 @@
 -- What is wanted, and what came of it.
-use Rattle.std.proofs.Common.{◌≡◌, ◌≢◌, ℕ, List, [], ◌∷◌, ◌++◌, Option, Some, None, Result, Ok, Err, OnOk, inl, inr, refl, sym, ap, subst, ◌∙◌}
-use Rattle.std.proofs.lemmas.List.{append-nil}
+use Rattle.std.proofs.Common.{◌≡◌, ℕ, List, ◌++◌, Option, Some, None, Result, Ok, Err, OnOk, inl, inr, refl, sym, ap, subst, ◌∙◌}
 use Rattle.outside_core.specs.Bytes.{Went, WentInPart}
 use Rattle.chunk_map.specs.Map.{Map}
-use Rattle.txn_types.specs.declared.event.NodeAnswer.TheVariants as answer
 use Rattle.txn_types.specs.declared.node.NodeId.{NodeId}
-use Rattle.txn_types.specs.declared.node.NodeId.TheVariants.{Shard, Router}
 use Rattle.txn_model.specs.declared.ran.Ran.{Ran}
 use Rattle.txn_model.specs.declared.ran.Ran.TheVariants.{Step, Swapped}
 use Rattle.cluster_core.specs.Nodes.{Nodes}
@@ -20,11 +17,10 @@ use Rattle.play_steps.specs.Player.{Player}
 use Rattle.play_steps.specs.Steps.{given_of, answer_text, behind_answer}
 use Rattle.cluster_play.specs.declared.stop.Stop.{Stop}
 use Rattle.cluster_play.specs.declared.stop.Stop.TheVariants as stop
-use Rattle.cluster_play.specs.Plays.{asked, CannotBe, Does, Turn, next_at, ShardRestarts, RouterRestarts, Happened}
-use Rattle.cluster_play.specs.Ended.{IsTurnText}
-use Rattle.cluster_play.specs.Steps.{Comes, Acts, ActStops, ActsInPart, TurnedTo, TurnStops}
-use Rattle.cluster_play.proofs.Texts.{part_more, part_same, part_all, part_none}
-use Rattle.outside_core.proofs.Steps.{went_more, went_none}
+use Rattle.cluster_play.specs.Plays.{asked, CannotBe, Does, next_at}
+use Rattle.cluster_play.specs.Steps.{Comes, Acts, ActStops, TurnedTo, TurnStops}
+use Rattle.cluster_play.proofs.Texts.{part_more, part_all}
+use Rattle.outside_core.proofs.Steps.{went_more}
 
 -- what came of an event is done of what asked for it
 pub comes_does : (told : Type 0) (chunks : Map) (p q : Player) (given : Given) (w : Want) (event : WorldEvent) (nodes behind : Nodes) (item : Option Ran) (text : List ℕ)

@@ -1,10 +1,8 @@
 -- How a playing ended.
-use Rattle.std.proofs.Common.{◌≡◌, ◌≤◌, ◌<◌, ℕ, ◌+◌, List, length, map, Option, Some, None, Result, Ok, Err, IfOk, IfErr, inl, inr, refl, sym, ap, subst, ◌∙◌, arith}
-use Rattle.std.specs.Bool.{MatchBool}
+use Rattle.std.proofs.Common.{◌≡◌, ◌≤◌, ℕ, ◌+◌, List, length, map, Option, Some, Result, Ok, Err, IfOk, IfErr, inl, inr, refl, sym, ap, subst, ◌∙◌, arith}
 use Rattle.outcomes.specs.Causes.{Rose}
 use Rattle.outcomes.specs.Outcome as outcome
 use Rattle.chunk_map.specs.Map.{Map}
-use Rattle.cluster_conf.specs.Conf.{Settings}
 use Rattle.record_store.specs.declared.error.NodeErr.{NodeErr}
 use Rattle.record_store.specs.declared.error.NodeErr.TheVariants as error
 use Rattle.txn_types.specs.declared.node.NodeId.{NodeId}
@@ -20,7 +18,7 @@ use Rattle.cluster_play.specs.declared.stop.Cut.TheVariants as cuts
 use Rattle.cluster_play.specs.declared.stop.Stop.{Stop}
 use Rattle.cluster_play.specs.declared.stop.Stop.TheVariants as stop
 use Rattle.cluster_play.specs.Schedule.{Schedule, is_memory, schedule_of, player_of}
-use Rattle.cluster_play.specs.Ended.{place_of, HasPlace, AreStarted, Written, CutShort, Over, Ended}
+use Rattle.cluster_play.specs.Ended.{place_of, AreStarted, Written, Over, Ended}
 use Rattle.cluster_play.specs.Steps.{status_at, PlaysUpTo, PlayStops, status_of, status_behind, EndedOver, IsStartErr, IsFrontErr, Leaves, RoseAt, HasAll}
 use Rattle.cluster_play.proofs.Turns.{written_cut}
 

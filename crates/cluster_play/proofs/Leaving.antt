@@ -1,11 +1,10 @@
 -- The nodes that a stop leaves.
-use Rattle.std.proofs.Common.{◌≡◌, ◌<◌, ℕ, zero, suc, ◌+◌, List, [], ◌∷◌, length, map, remove, get_or, slice_get, Option, Some, None, option_map, Result, Ok, Err, OnOk, refl, sym, ap, subst, ◌∙◌, arith}
+use Rattle.std.proofs.Common.{◌≡◌, ◌<◌, ℕ, zero, suc, ◌+◌, List, [], ◌∷◌, length, map, remove, get_or, slice_get, Option, Some, None, option_map, Result, Ok, Err, OnOk, sym, ap, subst, ◌∙◌, arith}
 use Rattle.std.proofs.lemmas.List.{length-map}
 use Rattle.std.proofs.lemmas.Option.{slice_get-get_or}
 use Rattle.router_state.specs.State.{RouterState}
 use Rattle.router_store.specs.Routers.{RouterOn}
 use Rattle.shard_core.specs.NodeStep.{NodeState}
-use Rattle.shard_core.specs.State.{ShardState}
 use Rattle.node_store.specs.Nodes.{ShardOn}
 use Rattle.cluster_play.specs.Plays.{boot_at}
 use Rattle.txn_types.specs.declared.node.NodeId.TheVariants.{Shard, Router}

@@ -1,5 +1,5 @@
 -- A shard that starts again: what its disk has is what a crash may leave.
-use Rattle.std.proofs.Common.{◌≡◌, ◌≤◌, ◌⊎◌, inl, inr, ℕ, List, [], ◌∷◌, ◌++◌, Option, Some, None, refl, sym, ap, subst, ◌∙◌}
+use Rattle.std.proofs.Common.{◌≡◌, ◌≤◌, ◌⊎◌, inl, inr, ℕ, List, ◌++◌, Option, Some, None, sym, ap, subst, ◌∙◌}
 use Rattle.journal_core.specs.Left.{Leaves}
 use Rattle.journal_rec.specs.declared.record.Rec.{Rec}
 use Rattle.record_store.specs.Found.{FoundIn}

@@ -1,5 +1,5 @@
 -- How the playing of a schedule ended, and what was written by then.
-use Rattle.std.specs.Prelude.{◌≡◌, ◌<◌, ◌≤◌, ◌⊎◌, ℕ, ◌+◌, List, ◌++◌, length, Option, Ok, Err}
+use Rattle.std.specs.Prelude.{◌≡◌, ◌<◌, ◌≤◌, ◌⊎◌, ℕ, ◌+◌, List, length, Option, Ok, Err}
 use Rattle.outside_core.specs.Bytes.{Went, WentInPart}
 use Rattle.chunk_map.specs.Map.{Map}
 use Rattle.cluster_conf.specs.Conf.{Settings}

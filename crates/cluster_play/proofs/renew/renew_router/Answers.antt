@@ -1,4 +1,4 @@
-use Rattle.std.proofs.Common.{Err, refl, sym, ap, ◌∙◌, arith}
+use Rattle.std.proofs.Common.{Err, sym, ap, ◌∙◌, arith}
 use Rattle.router_state.specs.State.{RouterState}
 use Rattle.cluster_play.proofs.Leaving.{router_gone, boot_router}
 use Rattle.cluster_play.proofs.renew.renew_router.Goals as goal

@@ -1,4 +1,4 @@
-use Rattle.std.proofs.Common.{Err, refl, sym, ap, ◌∙◌, arith}
+use Rattle.std.proofs.Common.{Err, sym, ap, ◌∙◌, arith}
 use Rattle.shard_core.specs.State.{ShardState}
 use Rattle.cluster_play.proofs.Leaving.{shard_gone, boot_shard}
 use Rattle.cluster_play.proofs.renew.renew_shard.Goals as goal
