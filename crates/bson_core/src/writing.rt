@@ -1,4 +1,5 @@
-ghost use Rattle.std.specs.Prelude.{◌≡◌, ◌++◌, ◌+◌, ◌-◌, ◌<◌, ◌≤◌, ◌⊎◌, map, take, drop, length, vec_len, OnOk, OnErr, IfErr};
+ghost use Rattle.std.specs.Prelude.{◌≡◌, ◌++◌, ◌+◌, ◌<◌, ◌≤◌, ◌⊎◌, map, take, drop, length, vec_len, OnOk, OnErr, IfErr};
+ghost use Rattle.std.specs.Int.{w32, to_le_bytes};
 ghost use Rattle.bson_core.specs.Spelling.{coded, element, elements, numbered, spelling, text, framed, binary};
 
 use crate::error::BsonErr;
@@ -8,27 +9,33 @@ use crate::value::{Bin, Doc, Value};
 use itoa::Buffer;
 use std::alloc::{AllocError, Global};
 
-/// No document is longer, since its count is an int32 that isn't negative.
+/// No document that is encoded is longer, since its count is an int32 that isn't negative.
 const MOST: u64 = 0x7fff_ffff;
+
+/// The four low bytes of a count, lowest first.
+fn low_bytes(count: u64) -> [u8; 4]
+    ensures { result ≡ to_le_bytes w32 count }
+{
+    let bytes = count.to_le_bytes();
+    [bytes[0], bytes[1], bytes[2], bytes[3]]
+}
 
 #[tactic(auto, unfolding(crate::specs::Spelling::text))]
 fn put_text(out: &mut Vec<u8>, string: &Text) -> Result<(), AllocError>
-    requires { length (text string.now) ≤ MOST }
     ensures { OnOk result (out.new.items ≡ out.old.items ++ text string.now) }
 {
     let bytes = string.as_str().as_bytes();
-    out.extend_from_slice(&(bytes.len() as u32 + 1).to_le_bytes())?;
+    out.extend_from_slice(&low_bytes(bytes.len() as u64 + 1))?;
     out.extend_from_slice(bytes)?;
     Ok(out.push(0)?)
 }
 
 #[tactic(auto, unfolding(crate::specs::Spelling::binary))]
 fn put_binary(out: &mut Vec<u8>, bin: &Bin) -> Result<(), AllocError>
-    requires { length (binary bin.now) ≤ MOST }
     ensures { OnOk result (out.new.items ≡ out.old.items ++ binary bin.now) }
 {
     let bytes = bin.bytes.as_slice();
-    out.extend_from_slice(&(bytes.len() as u32).to_le_bytes())?;
+    out.extend_from_slice(&low_bytes(bytes.len() as u64))?;
     out.push(bin.subtype)?;
     out.extend_from_slice(bytes)
 }
@@ -36,13 +43,12 @@ fn put_binary(out: &mut Vec<u8>, bin: &Bin) -> Result<(), AllocError>
 /// Ends the document whose count, still to be set, stands at `start`: a 00, and then the count.
 #[tactic(auto, unfolding(crate::specs::Spelling::framed))]
 fn close_document(out: &mut Vec<u8>, start: usize) -> Result<(), AllocError>
-    requires room { start + 4 ≤ vec_len out.old }
-    requires small { vec_len out.old + 1 - start ≤ MOST }
+    requires { start + 4 ≤ vec_len out.old }
     ensures { OnOk result (out.new.items ≡ take start out.old.items ++ framed (drop (start + 4) out.old.items)) }
 {
     out.push(0)?;
-    let count = (out.len() - start) as u32;
-    out[start..start + 4].copy_from_slice(&count.to_le_bytes());
+    let count = (out.len() - start) as u64;
+    out[start..start + 4].copy_from_slice(&low_bytes(count));
     Ok(())
 }
 
@@ -70,7 +76,6 @@ fn kind_of(value: &Value) -> u8
 #[cycle(put)]
 #[tactic(auto, using(crate::proofs::Spelled::coded_doc, crate::proofs::Spelled::coded_list))]
 fn put_value(out: &mut Vec<u8>, value: &Value) -> Result<(), AllocError>
-    requires { length (coded value.now).1 ≤ MOST }
     ensures { OnOk result (out.new.items ≡ out.old.items ++ (coded value.now).1) }
 {
     match value {
@@ -90,7 +95,6 @@ fn put_value(out: &mut Vec<u8>, value: &Value) -> Result<(), AllocError>
 
 #[cycle(put)]
 fn put_element(out: &mut Vec<u8>, name: &str, value: &Value) -> Result<(), AllocError>
-    requires { length (element (name.now, coded value.now)) ≤ MOST }
     ensures { OnOk result (out.new.items ≡ out.old.items ++ element (name.now, coded value.now)) }
 {
     out.push(kind_of(value))?;
@@ -101,7 +105,6 @@ fn put_element(out: &mut Vec<u8>, name: &str, value: &Value) -> Result<(), Alloc
 
 #[cycle(put)]
 fn put_elements(out: &mut Vec<u8>, fields: &[(Name, Value)]) -> Result<(), AllocError>
-    requires { length (elements fields.now) ≤ MOST }
     ensures { OnOk result (out.new.items ≡ out.old.items ++ elements fields.now) }
 {
     for (name, value) in fields {
@@ -112,7 +115,6 @@ fn put_elements(out: &mut Vec<u8>, fields: &[(Name, Value)]) -> Result<(), Alloc
 
 #[cycle(put)]
 fn put_numbered(out: &mut Vec<u8>, values: &[Value]) -> Result<(), AllocError>
-    requires { length (numbered 0 (map coded values.now)) ≤ MOST }
     ensures { OnOk result (out.new.items ≡ out.old.items ++ numbered 0 (map coded values.now)) }
 {
     for (place, value) in values.iter().enumerate() {
@@ -125,7 +127,6 @@ fn put_numbered(out: &mut Vec<u8>, values: &[Value]) -> Result<(), AllocError>
 #[cycle(put)]
 #[tactic(auto, using(crate::proofs::Lengths::length_framed))]
 fn put_document(out: &mut Vec<u8>, fields: &[(Name, Value)]) -> Result<(), AllocError>
-    requires { length (framed (elements fields.now)) ≤ MOST }
     ensures { OnOk result (out.new.items ≡ out.old.items ++ framed (elements fields.now)) }
 {
     let start = out.len();
@@ -137,13 +138,22 @@ fn put_document(out: &mut Vec<u8>, fields: &[(Name, Value)]) -> Result<(), Alloc
 #[cycle(put)]
 #[tactic(auto, using(crate::proofs::Lengths::length_framed))]
 fn put_list(out: &mut Vec<u8>, values: &[Value]) -> Result<(), AllocError>
-    requires { length (framed (numbered 0 (map coded values.now))) ≤ MOST }
     ensures { OnOk result (out.new.items ≡ out.old.items ++ framed (numbered 0 (map coded values.now))) }
 {
     let start = out.len();
     out.extend_from_slice(&[0; 4])?;
     put_numbered(out, values)?;
     close_document(out, start)
+}
+
+/// Appends the document's bytes, in its one spelling, however long that is. What doesn't fit into a count's int32
+/// is left away there, so only a document of at most 2,147,483,647 bytes is read again. Once through the document.
+///
+/// Where memory runs out, a front of the bytes may have been appended.
+pub fn append(doc: &Doc, out: &mut Vec<u8>) -> Result<(), AllocError>
+    ensures { OnOk result (out.new.items ≡ out.old.items ++ spelling doc.now) }
+{
+    put_document(out, doc.as_slice())
 }
 
 /// Appends the document's bytes, in its one spelling. It goes through the document twice, whatever its
@@ -160,7 +170,7 @@ pub fn encode(alloc: Global, doc: &Doc, out: &mut Vec<u8>) -> Result<(), BsonErr
         return Err(BsonErr::TooLarge);
     }
     let mut whole = Vec::new(alloc);
-    put_document(&mut whole, doc.as_slice())?;
+    append(doc, &mut whole)?;
     out.extend_from_slice(&whole)?;
     Ok(())
 }

@@ -5,7 +5,7 @@ ghost use Rattle.op_msg.specs.Message.{front, sequence_section, sequences, secti
 
 use crate::frame::{Frame, FrameErr};
 use crate::words::put_word;
-use bson_core::{Doc, Name, encode, size};
+use bson_core::{Doc, Name, append, size};
 use sqlite_items::Items;
 use std::alloc::Global;
 
@@ -113,27 +113,25 @@ fn put_front(out: &mut Vec<u8>, len: u32, frame: &Frame) -> Result<(), FrameErr>
     put_word(out, flags_of(frame.more))
 }
 
-fn put_document(alloc: Global, out: &mut Vec<u8>, doc: &Doc) -> Result<(), FrameErr>
-    requires { length (spelling doc.now) ≤ MOST }
+fn put_document(out: &mut Vec<u8>, doc: &Doc) -> Result<(), FrameErr>
     ensures ok { OnOk result (out.new.items ≡ out.old.items ++ spelling doc.now) }
     ensures refused { IfErr result (λ e. e ≡ FrameErr.Memory) }
 {
-    encode(alloc, doc, out)?;
+    append(doc, out)?;
     Ok(())
 }
 
-fn put_documents(alloc: Global, out: &mut Vec<u8>, docs: &[Doc]) -> Result<(), FrameErr>
-    requires { length (flat_map spelling docs.now) ≤ MOST }
+fn put_documents(out: &mut Vec<u8>, docs: &[Doc]) -> Result<(), FrameErr>
     ensures ok { OnOk result (out.new.items ≡ out.old.items ++ flat_map spelling docs.now) }
     ensures refused { IfErr result (λ e. e ≡ FrameErr.Memory) }
 {
     for doc in docs {
-        put_document(alloc, out, doc)?;
+        put_document(out, doc)?;
     }
     Ok(())
 }
 
-fn put_sequence(alloc: Global, out: &mut Vec<u8>, name: &Name, docs: &[Doc]) -> Result<(), FrameErr>
+fn put_sequence(out: &mut Vec<u8>, name: &Name, docs: &[Doc]) -> Result<(), FrameErr>
     requires { length (sequence_section name.now (flat_map spelling docs.now)) ≤ MOST }
     ensures ok { OnOk result (out.new.items ≡ out.old.items ++ sequence_section name.now (flat_map spelling docs.now)) }
     ensures refused { IfErr result (λ e. e ≡ FrameErr.Memory) }
@@ -144,32 +142,28 @@ fn put_sequence(alloc: Global, out: &mut Vec<u8>, name: &Name, docs: &[Doc]) -> 
     put_word(out, size)?;
     out.extend_from_slice(name.as_str().as_bytes())?;
     out.push(0)?;
-    put_documents(alloc, out, docs)
+    put_documents(out, docs)
 }
 
-fn put_sequences(
-    alloc: Global,
-    out: &mut Vec<u8>,
-    seqs: &[(Name, Items<Doc>)],
-) -> Result<(), FrameErr>
+fn put_sequences(out: &mut Vec<u8>, seqs: &[(Name, Items<Doc>)]) -> Result<(), FrameErr>
     requires { length (sequences seqs.now) ≤ MOST }
     ensures ok { OnOk result (out.new.items ≡ out.old.items ++ sequences seqs.now) }
     ensures refused { IfErr result (λ e. e ≡ FrameErr.Memory) }
 {
     for (name, docs) in seqs {
-        put_sequence(alloc, out, name, docs.as_slice())?;
+        put_sequence(out, name, docs.as_slice())?;
     }
     Ok(())
 }
 
-fn put_sections(alloc: Global, out: &mut Vec<u8>, frame: &Frame) -> Result<(), FrameErr>
+fn put_sections(out: &mut Vec<u8>, frame: &Frame) -> Result<(), FrameErr>
     requires { length (sections frame.now) ≤ MOST }
     ensures ok { OnOk result (out.new.items ≡ out.old.items ++ sections frame.now) }
     ensures refused { IfErr result (λ e. e ≡ FrameErr.Memory) }
 {
     out.push(BODY)?;
-    put_document(alloc, out, &frame.body)?;
-    put_sequences(alloc, out, frame.seqs.as_slice())
+    put_document(out, &frame.body)?;
+    put_sequences(out, frame.seqs.as_slice())
 }
 
 /// Appends the front of an OP_REPLY: the header, with that length, no flags, the cursor 0, and from 0 on one document.
@@ -189,40 +183,40 @@ fn put_reply_front(out: &mut Vec<u8>, len: u32, frame: &Frame) -> Result<(), Fra
 }
 
 /// Appends an OP_MSG, which has that many bytes.
-fn put_current(alloc: Global, out: &mut Vec<u8>, len: u32, frame: &Frame) -> Result<(), FrameErr>
+fn put_current(out: &mut Vec<u8>, len: u32, frame: &Frame) -> Result<(), FrameErr>
     requires sized { len ≡ length (message_by false frame.now) }
     requires small { len ≤ MOST }
     ensures ok { OnOk result (out.new.items ≡ out.old.items ++ message_by false frame.now) }
     ensures refused { IfErr result (λ e. e ≡ FrameErr.Memory) }
 {
     put_front(out, len, frame)?;
-    put_sections(alloc, out, frame)?;
+    put_sections(out, frame)?;
     Ok(())
 }
 
 /// Appends an OP_REPLY, which has that many bytes.
-fn put_older(alloc: Global, out: &mut Vec<u8>, len: u32, frame: &Frame) -> Result<(), FrameErr>
+fn put_older(out: &mut Vec<u8>, len: u32, frame: &Frame) -> Result<(), FrameErr>
     requires sized { len ≡ length (message_by true frame.now) }
     requires small { len ≤ MOST }
     ensures ok { OnOk result (out.new.items ≡ out.old.items ++ message_by true frame.now) }
     ensures refused { IfErr result (λ e. e ≡ FrameErr.Memory) }
 {
     put_reply_front(out, len, frame)?;
-    put_document(alloc, out, &frame.body)?;
+    put_document(out, &frame.body)?;
     Ok(())
 }
 
 /// Appends the message, which has that many bytes.
-fn put_message(alloc: Global, out: &mut Vec<u8>, len: u32, frame: &Frame) -> Result<(), FrameErr>
+fn put_message(out: &mut Vec<u8>, len: u32, frame: &Frame) -> Result<(), FrameErr>
     requires sized { len ≡ length (message frame.now) }
     requires small { len ≤ MOST }
     ensures ok { OnOk result (out.new.items ≡ out.old.items ++ message frame.now) }
     ensures refused { IfErr result (λ e. e ≡ FrameErr.Memory) }
 {
     if frame.legacy {
-        put_older(alloc, out, len, frame)
+        put_older(out, len, frame)
     } else {
-        put_current(alloc, out, len, frame)
+        put_current(out, len, frame)
     }
 }
 
@@ -243,7 +237,7 @@ pub fn write_frame(alloc: Global, frame: &Frame, out: &mut Vec<u8>) -> Result<()
         return Err(FrameErr::TooLarge);
     }
     let mut whole = Vec::new(alloc);
-    put_message(alloc, &mut whole, len as u32, frame)?;
+    put_message(&mut whole, len as u32, frame)?;
     out.extend_from_slice(&whole)?;
     Ok(())
 }

@@ -3,7 +3,7 @@ ghost use Rattle.hex.specs.Hex.{encode_lower};
 ghost use Rattle.bson_core.specs.Spelling.{spelling};
 ghost use Rattle.play_run.specs.Text.{time_text, tag_text, commit_line, put_line, value_of_id, id_document, delete_line, write_line, write_lines, entry_lines, dump};
 
-use bson_core::{Doc, Name, Value, encode};
+use bson_core::{Doc, Name, Value, append};
 use itoa::Buffer;
 use sqlite_items::Items;
 use std::alloc::{AllocError, Global};
@@ -54,10 +54,7 @@ fn digits_of(alloc: Global, doc: &Doc) -> Result<String, AllocError>
     ensures { IfOk result (λ s. string_bytes s ≡ encode_lower (spelling doc.now)) }
 {
     let mut bytes = Vec::new(alloc);
-    // A stored document has at most 16,777,216 bytes, so it is never too large.
-    let Ok(()) = encode(alloc, doc, &mut bytes) else {
-        return Err(AllocError);
-    };
+    append(doc, &mut bytes)?;
     hex::encode(alloc, bytes.as_slice())
 }
 

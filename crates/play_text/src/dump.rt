@@ -8,7 +8,7 @@ ghost use Rattle.play_text.specs.Text.{commit_line, write_line, by_shard, dump_t
 ghost use Rattle.play_text.specs.Dump.{kept_by, doc_line, share, lines_of, past_from};
 
 use crate::text::{put_tag, put_time};
-use bson_core::{Doc, Name, Value, encode};
+use bson_core::{Doc, Name, Value, append};
 use chunk_map::ChunkMap;
 use sqlite_items::Items;
 use std::alloc::{AllocError, Global};
@@ -33,10 +33,7 @@ fn digits_of(alloc: Global, doc: &Doc) -> Result<String, AllocError>
     ensures { IfOk result (λ s. string_bytes s ≡ encode_lower (spelling doc.now)) }
 {
     let mut bytes = Vec::new(alloc);
-    // A stored document has at most 16,777,216 bytes, so it is never too large.
-    let Ok(()) = encode(alloc, doc, &mut bytes) else {
-        return Err(AllocError);
-    };
+    append(doc, &mut bytes)?;
     hex::encode(alloc, bytes.as_slice())
 }
 

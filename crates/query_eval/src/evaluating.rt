@@ -1,4 +1,4 @@
-ghost use Rattle.std.specs.Prelude.{◌≡◌, ◌≤◌, length, [], Some, None, IfOk};
+ghost use Rattle.std.specs.Prelude.{◌≡◌, [], Some, None, IfOk};
 ghost use Rattle.std.specs.Str.{bytes_eq};
 ghost use Rattle.bson_core.specs.Spelling.{spelling};
 ghost use Rattle.txn_types.specs.declared.operation.Op.TheVariants as ops;
@@ -15,7 +15,7 @@ use crate::finding::find;
 use crate::held::{Held, holds, put};
 use crate::rows::{rows_under, wanted, writes_to};
 use crate::updates::apply;
-use bson_core::{BsonErr, Doc, copy_doc, encode, size};
+use bson_core::{Doc, append, copy_doc, size};
 use std::alloc::{AllocError, Global};
 use txn_types::{
     DeleteItem, Filter, Id, InsertItem, Ns, Op, OpErr, OpReply, UpdateItem, What, Writes,
@@ -28,29 +28,24 @@ pub struct Met {
     pub changed: u64,
 }
 
-/// The bytes of a document that isn't too long to have any.
+/// The bytes of a document.
 fn bytes_of(alloc: Global, doc: &Doc) -> Result<Vec<u8>, AllocError>
-    requires { length (spelling doc.now) ≤ 2147483647 }
     ensures { IfOk result (λ bytes. bytes.items ≡ spelling doc.now) }
 {
     let mut bytes = Vec::new(alloc);
-    match encode(alloc, doc, &mut bytes) {
-        Ok(()) => Ok(bytes),
-        Err(BsonErr::Memory) => Err(AllocError),
-        Err(_) => unreachable!(),
-    }
+    append(doc, &mut bytes)?;
+    Ok(bytes)
 }
 
-/// Whether a document has the same bytes as one that can be stored.
-fn are_same(alloc: Global, doc: &Doc, stored: &Doc) -> Result<bool, AllocError>
-    requires { length (spelling stored.now) ≤ 16777216 }
-    ensures { IfOk result (λ same. same ≡ bytes_eq (spelling doc.now) (spelling stored.now)) }
+/// Whether the documents have the same bytes.
+fn are_same(alloc: Global, doc: &Doc, other: &Doc) -> Result<bool, AllocError>
+    ensures { IfOk result (λ same. same ≡ bytes_eq (spelling doc.now) (spelling other.now)) }
 {
-    if size(doc) != size(stored) {
+    if size(doc) != size(other) {
         return Ok(false);
     }
     let bytes = bytes_of(alloc, doc)?;
-    let others = bytes_of(alloc, stored)?;
+    let others = bytes_of(alloc, other)?;
     Ok(bytes.as_slice() == others.as_slice())
 }
 
