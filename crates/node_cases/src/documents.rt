@@ -4,13 +4,10 @@ ghost use Rattle.txn_types.specs.Ids.{id_in};
 ghost use Rattle.txn_types.specs.Writes.{IsKept};
 
 use crate::words::{Unread, Words, int_of, sides};
-use bson_core::{Doc, Name, Value};
-use sqlite_items::Items;
+use bson_core::{Doc, Value};
+use case_texts::{delete, document, find, increment, where_id};
 use std::alloc::{AllocError, Global};
-use txn_types::{
-    Cmp, DeleteItem, Filter, Id, InsertItem, InsertItems, Ns, Op, Update, UpdateItem, UpdateKind,
-    UpdateOp, Write, Writes,
-};
+use txn_types::{Filter, Id, InsertItem, InsertItems, Ns, Op, Write, Writes};
 
 /// The collection of `DATABASE.COLLECTION`.
 pub fn namespace_of(alloc: Global, word: &str) -> Result<Ns, Unread> {
@@ -21,23 +18,13 @@ pub fn namespace_of(alloc: Global, word: &str) -> Result<Ns, Unread> {
     }
 }
 
-/// `{_id: id, a: value}`.
-fn document(alloc: Global, id: i32, value: i32) -> Result<Doc, AllocError>
-    ensures { IfOk result (λ d. IsSome (id_in d)) }
-{
-    let mut fields = Vec::new(alloc);
-    fields.push((Name::from_str(alloc, "_id")?, Value::Int(id)))?;
-    fields.push((Name::from_str(alloc, "a")?, Value::Int(value)))?;
-    Ok(Items::from_vec(fields))
-}
-
 /// The document of `ID:A`.
 fn document_of(alloc: Global, word: &str) -> Result<Doc, Unread>
     ensures { IfOk result (λ d. IsSome (id_in d)) }
 {
     let (id, value) = sides(word, ":")?;
     let (id, value) = (int_of(id)?, int_of(value)?);
-    Ok(document(alloc, id, value)?)
+    Ok(document(alloc, id, Value::Int(value))?)
 }
 
 /// A document that is put under its own id.
@@ -99,60 +86,9 @@ fn insert(alloc: Global, ns: Ns, words: &[&str]) -> Result<Op, Unread> {
 /// The document of this id, or all.
 fn filter(alloc: Global, word: &str) -> Result<Filter, Unread> {
     if word == "all" {
-        return Ok(Filter::And(Items::new(alloc)));
+        return Ok(where_id(alloc, None)?);
     }
-    Ok(Filter::Test {
-        name: Name::from_str(alloc, "_id")?,
-        cmp: Cmp::Eq,
-        value: Value::Int(int_of(word)?),
-    })
-}
-
-fn find(alloc: Global, ns: Ns, word: &str) -> Result<Op, Unread> {
-    Ok(Op::Find {
-        ns,
-        filter: filter(alloc, word)?,
-        down: false,
-        limit: 0,
-    })
-}
-
-/// `$inc` of `a`.
-fn increment(alloc: Global, by: i32) -> Result<Update, AllocError> {
-    let mut ops = Vec::new(alloc);
-    ops.push(UpdateOp {
-        kind: UpdateKind::Inc,
-        name: Name::from_str(alloc, "a")?,
-        value: Value::Int(by),
-    })?;
-    Ok(Update::Ops(Items::from_vec(ops)))
-}
-
-fn update(alloc: Global, ns: Ns, word: &str, by: i32) -> Result<Op, Unread> {
-    let mut items = Vec::new(alloc);
-    items.push(UpdateItem {
-        index: 0,
-        filter: filter(alloc, word)?,
-        update: increment(alloc, by)?,
-        many: true,
-    })?;
-    Ok(Op::Update {
-        ns,
-        items: Items::from_vec(items),
-    })
-}
-
-fn delete(alloc: Global, ns: Ns, word: &str) -> Result<Op, Unread> {
-    let mut items = Vec::new(alloc);
-    items.push(DeleteItem {
-        index: 0,
-        filter: filter(alloc, word)?,
-        many: true,
-    })?;
-    Ok(Op::Delete {
-        ns,
-        items: Items::from_vec(items),
-    })
+    Ok(where_id(alloc, Some(int_of(word)?))?)
 }
 
 /// The operation of the words from this one on: `insert COLLECTION ID:A ..`, `find COLLECTION WHICH`,
@@ -162,12 +98,12 @@ pub fn operation_of(alloc: Global, words: &Words, index: usize) -> Result<Op, Un
     let ns = namespace_of(alloc, words.word(index.saturating_add(1)))?;
     match words.word(index) {
         "insert" => insert(alloc, ns, words.words.get(at..).unwrap_or(&[])),
-        "find" => find(alloc, ns, words.word(at)),
+        "find" => Ok(find(ns, filter(alloc, words.word(at))?)),
         "inc" => {
             let by = int_of(words.word(at.saturating_add(1)))?;
-            update(alloc, ns, words.word(at), by)
+            Ok(increment(alloc, ns, filter(alloc, words.word(at))?, by)?)
         }
-        "delete" => delete(alloc, ns, words.word(at)),
+        "delete" => Ok(delete(alloc, ns, filter(alloc, words.word(at))?)?),
         _ => Err(Unread::Word),
     }
 }

@@ -1,19 +1,12 @@
 //! What messages and records have in common, as text.
 use bson_core::{Doc, Value};
 use std::alloc::{AllocError, Global};
-use txn_types::{Decision, Id, Lsid, NodeId, Tag, Ts};
+use txn_types::{Decision, Id, Lsid, Tag, Ts};
 
 /// `LETTERSECONDS.COUNT`, behind a space.
 pub fn put_time(out: &mut String, letter: &str, at: Ts) -> Result<(), AllocError> {
     let (seconds, count) = (at.0 >> 32, at.0 & 0xffff_ffff);
     write!(out, " {letter}{seconds}.{count}")
-}
-
-pub fn put_node(out: &mut String, node: NodeId) -> Result<(), AllocError> {
-    match node {
-        NodeId::Shard(number) => write!(out, "s{number}"),
-        NodeId::Router(number) => write!(out, "r{number}"),
-    }
 }
 
 pub fn put_tag(out: &mut String, tag: Tag) -> Result<(), AllocError> {

@@ -1,8 +1,7 @@
 //! What a node gives out, as text: records, messages and answers.
-use crate::texts::{
-    put_decision, put_document, put_id, put_named, put_node, put_parts, put_tag, put_time,
-};
+use crate::texts::{put_decision, put_document, put_id, put_named, put_parts, put_tag, put_time};
 use bson_core::Doc;
+use case_texts::put_node;
 use journal_rec::Rec;
 use std::alloc::{AllocError, Global};
 use txn_types::{

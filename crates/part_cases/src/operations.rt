@@ -1,15 +1,9 @@
 //! Operations of cases, on the collection `d.c`.
-ghost use Rattle.std.specs.Prelude.{IfOk, IsSome};
-ghost use Rattle.txn_types.specs.Ids.{id_in};
-
 use crate::asked::Asked;
-use bson_core::{Doc, Name, Text, Value};
-use sqlite_items::Items;
+use bson_core::{Text, Value};
+use case_texts::{delete, document, find, increment, where_id};
 use std::alloc::{AllocError, Global};
-use txn_types::{
-    Cmp, DeleteItem, Filter, InsertItem, InsertItems, Ns, Op, Update, UpdateItem, UpdateKind,
-    UpdateOp,
-};
+use txn_types::{Filter, InsertItem, InsertItems, Ns, Op};
 
 fn namespace(alloc: Global) -> Result<Ns, AllocError> {
     match Ns::of(alloc, "d", "c") {
@@ -24,16 +18,6 @@ fn number(word: &str) -> i32 {
 
 fn size(word: &str) -> u32 {
     word.parse::<u32>().unwrap_or(0)
-}
-
-/// `{_id: id, a: value}`.
-fn document(alloc: Global, id: i32, value: Value) -> Result<Doc, AllocError>
-    ensures { IfOk result (λ d. IsSome (id_in d)) }
-{
-    let mut fields = Vec::new(alloc);
-    fields.push((Name::from_str(alloc, "_id")?, Value::Int(id)))?;
-    fields.push((Name::from_str(alloc, "a")?, value))?;
-    Ok(Items::from_vec(fields))
 }
 
 /// An insert of one document.
@@ -80,60 +64,9 @@ fn long_text(alloc: Global, length: u32) -> Result<Value, AllocError> {
 /// The document of this id, or all.
 fn filter(alloc: Global, word: &str) -> Result<Filter, AllocError> {
     if word.is_empty() || word == "all" {
-        return Ok(Filter::And(Items::new(alloc)));
+        return where_id(alloc, None);
     }
-    Ok(Filter::Test {
-        name: Name::from_str(alloc, "_id")?,
-        cmp: Cmp::Eq,
-        value: Value::Int(number(word)),
-    })
-}
-
-fn find(alloc: Global, word: &str) -> Result<Op, AllocError> {
-    Ok(Op::Find {
-        ns: namespace(alloc)?,
-        filter: filter(alloc, word)?,
-        down: false,
-        limit: 0,
-    })
-}
-
-/// `$inc` of `a`.
-fn increment(alloc: Global, by: i32) -> Result<Update, AllocError> {
-    let mut ops = Vec::new(alloc);
-    ops.push(UpdateOp {
-        kind: UpdateKind::Inc,
-        name: Name::from_str(alloc, "a")?,
-        value: Value::Int(by),
-    })?;
-    Ok(Update::Ops(Items::from_vec(ops)))
-}
-
-fn update(alloc: Global, word: &str, by: i32) -> Result<Op, AllocError> {
-    let mut items = Vec::new(alloc);
-    items.push(UpdateItem {
-        index: 0,
-        filter: filter(alloc, word)?,
-        update: increment(alloc, by)?,
-        many: true,
-    })?;
-    Ok(Op::Update {
-        ns: namespace(alloc)?,
-        items: Items::from_vec(items),
-    })
-}
-
-fn delete(alloc: Global, word: &str) -> Result<Op, AllocError> {
-    let mut items = Vec::new(alloc);
-    items.push(DeleteItem {
-        index: 0,
-        filter: filter(alloc, word)?,
-        many: true,
-    })?;
-    Ok(Op::Delete {
-        ns: namespace(alloc)?,
-        items: Items::from_vec(items),
-    })
+    where_id(alloc, Some(number(word)))
 }
 
 /// The operation of the words from this one on; a find of all, where there is no such operation.
@@ -146,8 +79,13 @@ pub fn operation(alloc: Global, asked: &Asked, index: usize) -> Result<Op, Alloc
             let length = asked.word(index.saturating_add(3));
             texts(alloc, number(first), size(second), size(length))
         }
-        "inc" => update(alloc, first, number(second)),
-        "delete" => delete(alloc, first),
-        _ => find(alloc, first),
+        "inc" => increment(
+            alloc,
+            namespace(alloc)?,
+            filter(alloc, first)?,
+            number(second),
+        ),
+        "delete" => delete(alloc, namespace(alloc)?, filter(alloc, first)?),
+        _ => Ok(find(namespace(alloc)?, filter(alloc, first)?)),
     }
 }

@@ -1,8 +1,8 @@
 //! Records and refusals as text.
-use bson_core::Doc;
+use case_texts::{put_document, put_named, put_parts, put_tag, put_time};
 use journal_rec::{Rec, RecErr};
 use std::alloc::{AllocError, Global};
-use txn_types::{Decision, Id, Lsid, Tag, Ts, Write};
+use txn_types::{Decision, Id, Ts, Write};
 
 /// Why bytes are no record, with its place or its byte.
 pub fn fault_text(alloc: Global, error: RecErr) -> Result<String, AllocError> {
@@ -15,39 +15,6 @@ pub fn fault_text(alloc: Global, error: RecErr) -> Result<String, AllocError> {
         RecErr::Order { at } => format!(in alloc; "order {at}"),
         RecErr::Memory => Err(AllocError),
     }
-}
-
-fn put_time(out: &mut String, at: Ts) -> Result<(), AllocError> {
-    let (seconds, increment) = (at.0 >> 32, at.0 & 0xffff_ffff);
-    write!(out, " {seconds}.{increment}")
-}
-
-fn put_tag(out: &mut String, tag: Tag) -> Result<(), AllocError> {
-    let (router, boot, serial) = (tag.router, tag.boot, tag.serial);
-    write!(out, " tag {router}.{boot}.{serial}")
-}
-
-fn put_session(alloc: Global, out: &mut String, lsid: &Lsid) -> Result<(), AllocError> {
-    match lsid {
-        Lsid::Client(bytes) => {
-            let digits = hex::encode(alloc, bytes.as_slice())?;
-            write!(out, " session client:{digits}")
-        }
-        Lsid::Own { router, boot, conn } => write!(out, " session own:{router}.{boot}.{conn}"),
-    }
-}
-
-/// The transaction that a record is of.
-fn put_named(
-    alloc: Global,
-    out: &mut String,
-    tag: Tag,
-    lsid: &Lsid,
-    number: i64,
-) -> Result<(), AllocError> {
-    put_tag(out, tag)?;
-    put_session(alloc, out, lsid)?;
-    write!(out, " number {number}")
 }
 
 fn put_times(out: &mut String, read_at: Ts, at: Ts) -> Result<(), AllocError> {
@@ -64,13 +31,6 @@ fn put_decision(out: &mut String, decision: &Decision) -> Result<(), AllocError>
             put_time(out, *at)
         }
         Decision::Abort { shard, code } => write!(out, " abort shard {shard} cause {code}"),
-    }
-}
-
-fn put_document(alloc: Global, out: &mut String, doc: &Doc) -> Result<(), AllocError> {
-    match bson_text::print(alloc, doc) {
-        Ok(text) => write!(out, " {text}"),
-        Err(_) => Err(AllocError),
     }
 }
 
@@ -107,14 +67,6 @@ fn put_write(alloc: Global, out: &mut String, write: &Write) -> Result<(), Alloc
 fn put_writes(alloc: Global, out: &mut String, writes: &[Write]) -> Result<(), AllocError> {
     for write in writes {
         put_write(alloc, out, write)?;
-    }
-    Ok(())
-}
-
-fn put_parts(out: &mut String, parts: &[(u16, u32)]) -> Result<(), AllocError> {
-    out.push_str(" parts")?;
-    for (shard, boot) in parts {
-        write!(out, " {shard}@{boot}")?;
     }
     Ok(())
 }

@@ -3,7 +3,6 @@
 #![tactic(auto)]
 
 mod cases;
-mod contents;
 mod letters;
 mod standing;
 mod texts;

@@ -1,31 +1,14 @@
 //! What a router gives out, in words.
-use crate::contents::{put_op, put_tag, put_time};
 use bson_core::{Doc, decode};
 use bson_text::print;
+use case_texts::{put_named, put_node, put_op, put_parts, put_time};
 use op_msg::read_frame;
 use router_plan::Turn;
 use std::alloc::{AllocError, Global};
 use txn_types::{Abort, Envelope, Lsid, Msg, NodeId, Statement, Tag};
 
-fn put_node(out: &mut String, node: NodeId) -> Result<(), AllocError> {
-    match node {
-        NodeId::Shard(number) => write!(out, "s{number}"),
-        NodeId::Router(number) => write!(out, "r{number}"),
-    }
-}
-
-fn put_session(alloc: Global, out: &mut String, lsid: &Lsid) -> Result<(), AllocError> {
-    match lsid {
-        Lsid::Client(bytes) => {
-            let digits = hex::encode(alloc, bytes.as_slice())?;
-            write!(out, " session client:{digits}")
-        }
-        Lsid::Own { router, boot, conn } => write!(out, " session own:{router}.{boot}.{conn}"),
-    }
-}
-
 /// A message's kind by its name, and its transaction.
-fn put_named(
+fn put_begun(
     alloc: Global,
     out: &mut String,
     kind: &str,
@@ -34,13 +17,11 @@ fn put_named(
 ) -> Result<(), AllocError> {
     let (lsid, number) = session;
     write!(out, " {kind}")?;
-    put_tag(out, tag)?;
-    put_session(alloc, out, lsid)?;
-    write!(out, " number {number}")
+    put_named(alloc, out, tag, lsid, number)
 }
 
 fn put_statement(alloc: Global, out: &mut String, m: &Statement) -> Result<(), AllocError> {
-    put_named(alloc, out, "Statement", m.tag, (&m.lsid, m.number))?;
+    put_begun(alloc, out, "Statement", m.tag, (&m.lsid, m.number))?;
     write!(out, " k {} read", m.k)?;
     put_time(out, m.read_at)?;
     write!(out, " boot {}", m.boot)?;
@@ -48,31 +29,23 @@ fn put_statement(alloc: Global, out: &mut String, m: &Statement) -> Result<(), A
 }
 
 fn put_abort(alloc: Global, out: &mut String, m: &Abort) -> Result<(), AllocError> {
-    put_named(alloc, out, "Abort", m.tag, (&m.lsid, m.number))?;
+    put_begun(alloc, out, "Abort", m.tag, (&m.lsid, m.number))?;
     write!(out, " why {}", m.why)
-}
-
-fn put_parts(out: &mut String, parts: &[(u16, u32)]) -> Result<(), AllocError> {
-    out.push_str(" parts")?;
-    for (shard, boot) in parts {
-        write!(out, " {shard}@{boot}")?;
-    }
-    Ok(())
 }
 
 fn put_msg(alloc: Global, out: &mut String, msg: &Msg) -> Result<(), AllocError> {
     match msg {
         Msg::Statement(m) => put_statement(alloc, out, m),
         Msg::Commit(m) => {
-            put_named(alloc, out, "Commit", m.tag, (&m.lsid, m.number))?;
+            put_begun(alloc, out, "Commit", m.tag, (&m.lsid, m.number))?;
             write!(out, " boot {}", m.boot)
         }
         Msg::Recover(m) => {
-            put_named(alloc, out, "Recover", m.tag, (&m.lsid, m.number))?;
+            put_begun(alloc, out, "Recover", m.tag, (&m.lsid, m.number))?;
             write!(out, " boot {}", m.boot)
         }
         Msg::CommitTwo(m) => {
-            put_named(alloc, out, "CommitTwo", m.tag, (&m.lsid, m.number))?;
+            put_begun(alloc, out, "CommitTwo", m.tag, (&m.lsid, m.number))?;
             write!(out, " boot {}", m.boot)?;
             put_parts(out, m.parts.as_slice())
         }

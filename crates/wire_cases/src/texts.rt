@@ -1,5 +1,7 @@
 //! Envelopes and refusals as text.
-use crate::contents::{put_cause, put_op, put_reply, put_tag, put_time, put_told};
+use case_texts::{
+    put_cause, put_named, put_node, put_op, put_parts, put_reply, put_tag, put_time, put_told,
+};
 use node_wire::WireErr;
 use std::alloc::{AllocError, Global};
 use txn_types::{
@@ -14,44 +16,6 @@ pub fn fault_text(alloc: Global, error: WireErr) -> Result<String, AllocError> {
         WireErr::TooLarge => String::from_str(alloc, "too large"),
         WireErr::Memory => Err(AllocError),
     }
-}
-
-fn put_node(out: &mut String, node: NodeId) -> Result<(), AllocError> {
-    match node {
-        NodeId::Shard(number) => write!(out, "s{number}"),
-        NodeId::Router(number) => write!(out, "r{number}"),
-    }
-}
-
-fn put_session(alloc: Global, out: &mut String, lsid: &Lsid) -> Result<(), AllocError> {
-    match lsid {
-        Lsid::Client(bytes) => {
-            let digits = hex::encode(alloc, bytes.as_slice())?;
-            write!(out, " session client:{digits}")
-        }
-        Lsid::Own { router, boot, conn } => write!(out, " session own:{router}.{boot}.{conn}"),
-    }
-}
-
-/// The transaction that a message is of.
-fn put_named(
-    alloc: Global,
-    out: &mut String,
-    tag: Tag,
-    lsid: &Lsid,
-    number: i64,
-) -> Result<(), AllocError> {
-    put_tag(out, tag)?;
-    put_session(alloc, out, lsid)?;
-    write!(out, " number {number}")
-}
-
-fn put_parts(out: &mut String, parts: &[(u16, u32)]) -> Result<(), AllocError> {
-    out.push_str(" parts")?;
-    for (shard, boot) in parts {
-        write!(out, " {shard}@{boot}")?;
-    }
-    Ok(())
 }
 
 fn put_decision(out: &mut String, decision: &Decision) -> Result<(), AllocError> {

@@ -1,22 +1,14 @@
-//! Operations, replies and causes as text.
+//! Operations, replies and causes as text, each behind a space.
+use crate::names::{put_tag, put_time};
 use bson_core::{Doc, Value};
 use std::alloc::{AllocError, Global};
 use txn_types::{
-    By, Cause, Cmp, DeleteItem, Filter, Id, InsertItem, Op, OpErr, OpReply, Tag, Told, Ts, Update,
+    By, Cause, Cmp, DeleteItem, Filter, Id, InsertItem, Op, OpErr, OpReply, Told, Update,
     UpdateItem, UpdateKind, UpdateOp, What,
 };
 
-pub fn put_time(out: &mut String, at: Ts) -> Result<(), AllocError> {
-    let (seconds, increment) = (at.0 >> 32, at.0 & 0xffff_ffff);
-    write!(out, " {seconds}.{increment}")
-}
-
-pub fn put_tag(out: &mut String, tag: Tag) -> Result<(), AllocError> {
-    let (router, boot, serial) = (tag.router, tag.boot, tag.serial);
-    write!(out, " tag {router}.{boot}.{serial}")
-}
-
-fn put_document(alloc: Global, out: &mut String, doc: &Doc) -> Result<(), AllocError> {
+/// A document in the form of bson_text.
+pub fn put_document(alloc: Global, out: &mut String, doc: &Doc) -> Result<(), AllocError> {
     match bson_text::print(alloc, doc) {
         Ok(text) => write!(out, " {text}"),
         Err(_) => Err(AllocError),
@@ -184,6 +176,7 @@ fn put_deletes(alloc: Global, out: &mut String, items: &[DeleteItem]) -> Result<
     Ok(())
 }
 
+/// An operation by its name and its collection, with its items or what it asks for.
 pub fn put_op(alloc: Global, out: &mut String, op: &Op) -> Result<(), AllocError> {
     match op {
         Op::Insert { ns, docs } => {
@@ -234,6 +227,7 @@ fn put_rows(
     }
 }
 
+/// The counts of a write, or the rows that were found.
 pub fn put_reply(alloc: Global, out: &mut String, reply: &OpReply) -> Result<(), AllocError> {
     match reply {
         OpReply::Count { n, modified } => write!(out, " count {n} modified {modified}"),
@@ -292,12 +286,14 @@ fn put_cause_fields(alloc: Global, out: &mut String, cause: &Cause) -> Result<()
     }
 }
 
+/// A cause by its number, and its fields.
 pub fn put_cause(alloc: Global, out: &mut String, cause: &Cause) -> Result<(), AllocError> {
     let number = cause.number();
     write!(out, " cause {number}")?;
     put_cause_fields(alloc, out, cause)
 }
 
+/// What is told of a transaction.
 pub fn put_told(alloc: Global, out: &mut String, told: &Told) -> Result<(), AllocError> {
     match told {
         Told::Committed { at } => {
