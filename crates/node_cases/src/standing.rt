@@ -11,20 +11,16 @@ use record_store::NodeErr;
 use std::alloc::{AllocError, Global};
 use std::mem;
 
-/// A disk, the journal on it, the node whose it is, or a node without a disk.
-#[derive(Drop)]
-enum Held {
-    Nothing,
-    Disk(FuseDisk),
-    Journal(Journal<FuseDisk>),
-    Node(DiskNode),
-    List(ListNode),
-}
-
+/// What stands: a disk, the journal on it, the node whose it is, or a node without a disk. Each kind has a list of its
+/// own, and one of the lists has one at most: a node is moved where it starts and where its disk is taken, and nowhere
+/// else.
 #[derive(Drop)]
 pub struct Standing {
     shard: u16,
-    held: Held,
+    disks: Vec<FuseDisk>,
+    journals: Vec<Journal<FuseDisk>>,
+    nodes: Vec<DiskNode>,
+    lists: Vec<ListNode>,
     script: Vec<String>,
     behind: Vec<String>,
 }
@@ -67,7 +63,10 @@ impl Standing {
     pub fn new(alloc: Global) -> Standing {
         Standing {
             shard: 0,
-            held: Held::Nothing,
+            disks: Vec::new(alloc),
+            journals: Vec::new(alloc),
+            nodes: Vec::new(alloc),
+            lists: Vec::new(alloc),
             script: Vec::new(alloc),
             behind: Vec::new(alloc),
         }
@@ -75,23 +74,40 @@ impl Standing {
 
     /// Takes the disk of what stands, which stops no more.
     fn disk(&mut self) -> Result<MemDisk, Unread> {
-        match mem::replace(&mut self.held, Held::Nothing) {
-            Held::Nothing | Held::List(_) => Err(Unread::Word),
-            Held::Disk(disk) => Ok(disk.inner()),
-            Held::Journal(journal) => Ok(journal.into_disk().inner()),
-            Held::Node(node) => Ok(node.into_disk().inner()),
+        self.lists.clear();
+        if let Some(disk) = self.disks.pop() {
+            return Ok(disk.inner());
+        }
+        if let Some(journal) = self.journals.pop() {
+            return Ok(journal.into_disk().inner());
+        }
+        match self.nodes.pop() {
+            Some(node) => Ok(node.into_disk().inner()),
+            None => Err(Unread::Word),
         }
     }
 
-    /// Takes the journal of what stands.
-    fn journal(&mut self) -> Result<Journal<FuseDisk>, Unread> {
-        let held = mem::replace(&mut self.held, Held::Nothing);
-        if let Held::Journal(journal) = held {
-            return Ok(journal);
+    /// Nothing stands.
+    fn clear(&mut self) {
+        self.disks.clear();
+        self.journals.clear();
+        self.nodes.clear();
+        self.lists.clear();
+    }
+
+    /// A disk stands, in place of what stood.
+    fn put(&mut self, disk: FuseDisk) -> Result<(), Unread> {
+        self.clear();
+        Ok(self.disks.push(disk)?)
+    }
+
+    /// A journal stands on the disk of what stood, if it isn't there already.
+    fn open_journal(&mut self) -> Result<(), Unread> {
+        if !self.journals.is_empty() {
+            return Ok(());
         }
-        self.held = held;
         match Journal::start(FuseDisk::over(self.disk()?, u64::MAX)) {
-            Ok(journal) => Ok(journal),
+            Ok(journal) => Ok(self.journals.push(journal)?),
             Err(_) => Err(Unread::Word),
         }
     }
@@ -100,10 +116,11 @@ impl Standing {
         if payload.len() > MOST_PAYLOAD {
             return Err(Unread::Word);
         }
-        let mut journal = self.journal()?;
-        let appended = journal.append(payload);
-        self.held = Held::Journal(journal);
-        match appended {
+        self.open_journal()?;
+        let Some(journal) = self.journals.first_mut() else {
+            return Err(Unread::Word);
+        };
+        match journal.append(payload) {
             Ok(()) => Ok(()),
             Err(_) => Err(Unread::Word),
         }
@@ -124,11 +141,11 @@ impl Standing {
         let disk = FuseDisk::over(self.disk()?, u64::MAX);
         match DiskNode::start(alloc, self.shard, disk) {
             Ok(node) => {
-                self.held = Held::Node(node);
+                self.nodes.push(node)?;
                 found.say(alloc, "ok")?;
             }
             Err((error, disk)) => {
-                self.held = Held::Disk(disk);
+                self.disks.push(disk)?;
                 put_refusal(alloc, error, found)?;
             }
         }
@@ -140,7 +157,8 @@ impl Standing {
         self.shard = short_of(shard)?;
         match list_node(alloc, self.shard) {
             Ok(node) => {
-                self.held = Held::List(node);
+                self.clear();
+                self.lists.push(node)?;
                 found.say(alloc, "ok")?;
             }
             Err(error) => put_refusal(alloc, error, found)?,
@@ -149,24 +167,25 @@ impl Standing {
     }
 
     fn event(&mut self, alloc: Global, words: &Words, found: &mut Found) -> Result<(), Unread> {
-        match &mut self.held {
-            Held::Node(node) => {
-                take(alloc, self.shard, node, words, found)?;
-            }
-            Held::List(node) => {
-                take(alloc, self.shard, node, words, found)?;
-            }
-            _ => return Err(Unread::Word),
+        if let Some(node) = self.nodes.first_mut() {
+            take(alloc, self.shard, node, words, found)?;
+            return Ok(());
         }
+        let Some(node) = self.lists.first_mut() else {
+            return Err(Unread::Word);
+        };
+        take(alloc, self.shard, node, words, found)?;
         Ok(())
     }
 
     /// What the node tells.
     fn look(&self, alloc: Global, what: &str, found: &mut Found) -> Result<(), Unread> {
-        match &self.held {
-            Held::Node(node) => look(alloc, node, what, found),
-            Held::List(node) => look(alloc, node, what, found),
-            _ => Err(Unread::Word),
+        if let Some(node) = self.nodes.first() {
+            return look(alloc, node, what, found);
+        }
+        match self.lists.first() {
+            Some(node) => look(alloc, node, what, found),
+            None => Err(Unread::Word),
         }
     }
 
@@ -174,24 +193,21 @@ impl Standing {
     fn file(&mut self, alloc: Global, found: &mut Found) -> Result<(), Unread> {
         let disk = self.disk()?;
         found.push(hex::encode(alloc, disk.bytes())?)?;
-        self.held = Held::Disk(FuseDisk::over(disk, u64::MAX));
-        Ok(())
+        self.put(FuseDisk::over(disk, u64::MAX))
     }
 
     /// Keeps a disk of these bytes with this room.
     fn put_disk(&mut self, alloc: Global, words: &Words) -> Result<(), Unread> {
         let bytes = bytes_of(alloc, words.word(2))?;
         let disk = disk_of(alloc, bytes.as_slice(), words.word(1))?;
-        self.held = Held::Disk(disk);
-        Ok(())
+        self.put(disk)
     }
 
     /// The disk has other room.
     fn set_room(&mut self, alloc: Global, room: &str) -> Result<(), Unread> {
         let disk = self.disk()?;
         let disk = disk_of(alloc, disk.bytes(), room)?;
-        self.held = Held::Disk(disk);
-        Ok(())
+        self.put(disk)
     }
 
     fn stops(&mut self, alloc: Global, shard: &str, found: &mut Found) -> Result<(), Unread> {
