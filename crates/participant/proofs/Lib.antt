@@ -9,7 +9,6 @@ pub mod Keys
 pub mod Moving
 pub mod Commits
 pub mod Votes
-pub mod Merges
 pub mod Expiries
 pub mod Places
 pub mod Forgotten

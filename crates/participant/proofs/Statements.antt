@@ -30,7 +30,7 @@ use Rattle.participant.proofs.Ends.{entry_elsewhere, entry_without}
 use Rattle.participant.proofs.Forgotten.{nothing_taken}
 use Rattle.participant.proofs.Inserted.{all_into, Ascend, keys_laid, ascend_keys, rises_under, put_taken}
 use Rattle.participant.proofs.Keys.{keys_dropped}
-use Rattle.participant.proofs.Merges.{laid-append}
+use Rattle.write_sets.proofs.Merges.{laid-append}
 use Rattle.participant.proofs.Moving.{made, moved, entry_here, of_two, one_session, none_live, closed_at}
 use Rattle.participant.proofs.Tags.{tag_flip, tag_same, lsid_same}
 use Rattle.participant.proofs.Written.{keys_gone, keys_with, keys_with_others, rises_written, rises_dropped}

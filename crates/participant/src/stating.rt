@@ -35,7 +35,7 @@ ghost use Rattle.participant.specs.Statement.{
 ghost use Rattle.participant.specs.Stands.{CanLeave, IsNext, meant, mine};
 
 use crate::lives::Live;
-use crate::merging::{keys_of, merged};
+use crate::merging::keys_of;
 use crate::part::Participant;
 use crate::preparing::is_replaced;
 use crate::putting::{drop_live, put_all};
@@ -48,6 +48,7 @@ use session_table::{Session, SessionState, is_same_tag};
 use std::alloc::AllocError;
 use txn_types::{By, Cause, HybridClock, Id, OpReply, Statement, Ts, Write, Writes};
 use version_store::ScanErr;
+use write_sets::merged;
 
 /// A transaction's writes on one shard have at most so many bytes.
 const MOST_BYTES: u64 = 100_000_000;

@@ -2,5 +2,4 @@ pub mod Searched
 pub mod Viewed
 pub mod Ordered
 pub mod Added
-pub mod Merges
 pub mod Gathered

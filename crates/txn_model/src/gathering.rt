@@ -1,13 +1,14 @@
 ghost use Rattle.std.specs.Prelude.{◌≡◌, ◌++◌, [], ◌∷◌, None, map, IfOk, OnOk};
 ghost use Rattle.txn_types.specs.Writes.{IsKept, AllKept};
+ghost use Rattle.txn_semantics.specs.Writes.{write_set};
 ghost use Rattle.txn_model.specs.Commits.{prepared_in, prepared_at, parts_in, joined, records_of};
 ghost use Rattle.txn_model.specs.Gathering.{with_prepared, gathered};
 
-use crate::merging::write_set;
 use journal_rec::Rec;
 use std::alloc::{AllocError, Global};
 use txn_semantics::Entry;
 use txn_types::{Tag, Ts, Write, Writes};
+use write_sets::merged;
 
 /// What participants have prepared: what the first read at, and all their writes, one list behind the other.
 #[derive(Drop)]
@@ -131,6 +132,13 @@ fn share_of(
         take_journal(alloc, &mut share, tag, records_of(journals, part.0))?;
     }
     Ok(share)
+}
+
+/// The last write to each document, rising by namespace and id.
+fn write_set(alloc: Global, writes: &Writes) -> Result<Writes, AllocError>
+    ensures { IfOk result (λ set. set ≡ write_set writes.now) }
+{
+    merged(alloc, &[], writes)
 }
 
 /// The commit of a transaction at a time: its participants' writes, joined.

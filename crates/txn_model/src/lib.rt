@@ -3,10 +3,8 @@
 #![tactic(auto)]
 
 mod gathering;
-mod key;
 pub mod laws;
 mod listing;
-mod merging;
 mod order;
 mod ran;
 mod rows;

@@ -1,4 +1,4 @@
-use Rattle.txn_model.proofs.Merges.{kept_at}
+use Rattle.write_sets.proofs.Merges.{kept_at}
 use Rattle.txn_model.proofs.gathering.put_all.Goals as goal
 
 pub put-requires : goal.put-requires

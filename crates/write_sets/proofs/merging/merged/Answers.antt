@@ -1,7 +1,7 @@
 use Rattle.std.proofs.Common.{◌≡◌, List, IfOk, subst}
 use Rattle.txn_types.specs.declared.write.Write.{Write}
-use Rattle.participant.proofs.Merges.{merged_is}
-use Rattle.participant.proofs.merging.merged.Goals as goal
+use Rattle.write_sets.proofs.Merges.{merged_is}
+use Rattle.write_sets.proofs.merging.merged.Goals as goal
 
 pub returns : goal.returns
 returns c =

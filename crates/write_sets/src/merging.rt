@@ -1,9 +1,9 @@
-ghost use Rattle.std.specs.Prelude.{◌≡◌, map, IfOk, OnOk};
+ghost use Rattle.std.specs.Prelude.{◌≡◌, ◌++◌, map, IfOk, OnOk};
 ghost use Rattle.txn_types.specs.Writes.{IsKept, AllKept};
 ghost use Rattle.txn_semantics.specs.Keyed.{put, laid};
 ghost use Rattle.txn_semantics.specs.Writes.{place_of, place_cmp, placed, write_set};
 
-use crate::key::Place;
+use crate::place::Place;
 use std::alloc::{AllocError, Global};
 use std::collections::BTreeMap;
 use std::marker::Model;
@@ -48,7 +48,7 @@ impl Kept {
 }
 
 /// The key that the write is to.
-fn key_of(alloc: Global, write: &Write) -> Result<Key, AllocError>
+pub fn key_of(alloc: Global, write: &Write) -> Result<Key, AllocError>
     ensures { IfOk result (λ key. key ≡ place_of write.now) }
 {
     match write {
@@ -103,11 +103,13 @@ fn unloaded(alloc: Global, mut rows: BTreeMap<Place, Kept>) -> Result<Writes, Al
     Ok(writes)
 }
 
-/// The last write to each document, rising by namespace and id.
-pub fn write_set(alloc: Global, writes: &Writes) -> Result<Writes, AllocError>
-    ensures { IfOk result (λ set. set ≡ write_set writes.now) }
+/// The last write to each document, of some writes and of those behind them, rising by namespace and id.
+pub fn merged(alloc: Global, own: &[Write], writes: &Writes) -> Result<Writes, AllocError>
+    requires { AllKept own.now }
+    ensures { IfOk result (λ all. all ≡ write_set (own.now ++ writes.now)) }
 {
     let mut rows = BTreeMap::new(alloc);
+    lay_all(&mut rows, alloc, own)?;
     lay_all(&mut rows, alloc, writes.as_slice())?;
     unloaded(alloc, rows)
 }

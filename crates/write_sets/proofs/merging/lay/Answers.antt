@@ -4,7 +4,7 @@ use Rattle.txn_semantics.specs.Keyed.{put}
 use Rattle.txn_semantics.specs.Writes.{Place, place_of, place_cmp}
 use Rattle.txn_semantics.proofs.Places.{place_total, place_exact}
 use Rattle.version_store.proofs.Keyed.{inserted}
-use Rattle.participant.proofs.merging.lay.Goals as goal
+use Rattle.write_sets.proofs.merging.lay.Goals as goal
 
 pub returns-in-Ok : goal.returns-in-Ok
 returns-in-Ok c =
