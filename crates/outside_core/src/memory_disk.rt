@@ -6,7 +6,7 @@ ghost use Rattle.outside_core.specs.Past.{Grew, moments, HadSince};
 
 use crate::disk::{Disk, DiskErr};
 use crate::memory_error::MemErr;
-use std::alloc::Global;
+use std::alloc::{AllocError, Global};
 use std::snapshot::Snapshot;
 
 /// What a disk in memory has held before, newest first, as clauses see it: it has no bytes of its
@@ -15,6 +15,21 @@ use std::snapshot::Snapshot;
 pub enum Past {
     Start,
     After(Snapshot<Vec<u8>>, usize, Snapshot<Past>),
+}
+
+/// A block of zeros, with which a new disk's room is filled.
+const BLOCK: [u8; 4096] = [0; 4096];
+
+/// So many zeros, block by block.
+fn zeros(alloc: Global, count: usize) -> Result<Vec<u8>, AllocError>
+    ensures { IfOk result (λ room. vec_len room ≡ count) }
+{
+    let mut room = Vec::with_capacity(alloc, count)?;
+    while room.len() < count {
+        let part = BLOCK.len().min(count - room.len());
+        room.extend_from_slice(&BLOCK[..part])?;
+    }
+    Ok(room)
 }
 
 /// A disk in memory, which takes all its room at once. A write past its room is a failed call. Each
@@ -37,7 +52,7 @@ impl MemDisk {
         ensures capacity { IfOk result (λ d. room_of d ≡ capacity) }
         ensures faults { IfOk result (λ d. faults_of d ≡ 0) }
     {
-        let room = vec![in alloc; 0u8; capacity]?;
+        let room = zeros(alloc, capacity)?;
         Ok(MemDisk {
             room,
             len: 0,
