@@ -1,5 +1,5 @@
 -- The operators of filters and updates by their names, which are those of the MongoDB manual.
-use Rattle.std.specs.Prelude.{ℕ, List, [], ◌∷◌, Option, Some, None, if◌then◌else◌}
+use Rattle.std.specs.Prelude.{ℕ, List, [], ◌∷◌, Option, Some, None, if◌then◌else◌, codes}
 use Rattle.std.specs.Str.{bytes_eq}
 use Rattle.txn_types.specs.declared.filter.Cmp.TheVariants.{Eq, Ne, Gt, Gte, Lt, Lte}
 use Rattle.txn_types.specs.declared.filter.Filter.{Filter}
@@ -19,31 +19,31 @@ beside name (row ∷ rows) = if bytes_eq name row.0 then Some row.1 else beside 
 -- $and, $or, $nor
 abbrev pub junction_of : List ℕ → Option Junction
 junction_of name = beside name (
-    (36 ∷ 97 ∷ 110 ∷ 100 ∷ [], And) ∷
-    (36 ∷ 111 ∷ 114 ∷ [], Or) ∷
-    (36 ∷ 110 ∷ 111 ∷ 114 ∷ [], Nor) ∷
+    (codes "$and", And) ∷
+    (codes "$or", Or) ∷
+    (codes "$nor", Nor) ∷
     [])
 
 -- $eq, $ne, $gt, $gte, $lt, $lte, $in, $nin, $exists
 abbrev pub operator_of : List ℕ → Option Operator
 operator_of name = beside name (
-    (36 ∷ 101 ∷ 113 ∷ [], Compare Eq) ∷
-    (36 ∷ 110 ∷ 101 ∷ [], Compare Ne) ∷
-    (36 ∷ 103 ∷ 116 ∷ [], Compare Gt) ∷
-    (36 ∷ 103 ∷ 116 ∷ 101 ∷ [], Compare Gte) ∷
-    (36 ∷ 108 ∷ 116 ∷ [], Compare Lt) ∷
-    (36 ∷ 108 ∷ 116 ∷ 101 ∷ [], Compare Lte) ∷
-    (36 ∷ 105 ∷ 110 ∷ [], In) ∷
-    (36 ∷ 110 ∷ 105 ∷ 110 ∷ [], Nin) ∷
-    (36 ∷ 101 ∷ 120 ∷ 105 ∷ 115 ∷ 116 ∷ 115 ∷ [], Exists) ∷
+    (codes "$eq", Compare Eq) ∷
+    (codes "$ne", Compare Ne) ∷
+    (codes "$gt", Compare Gt) ∷
+    (codes "$gte", Compare Gte) ∷
+    (codes "$lt", Compare Lt) ∷
+    (codes "$lte", Compare Lte) ∷
+    (codes "$in", In) ∷
+    (codes "$nin", Nin) ∷
+    (codes "$exists", Exists) ∷
     [])
 
 -- $set, $unset, $inc
 abbrev pub kind_of : List ℕ → Option UpdateKind
 kind_of name = beside name (
-    (36 ∷ 115 ∷ 101 ∷ 116 ∷ [], Set) ∷
-    (36 ∷ 117 ∷ 110 ∷ 115 ∷ 101 ∷ 116 ∷ [], Unset) ∷
-    (36 ∷ 105 ∷ 110 ∷ 99 ∷ [], Inc) ∷
+    (codes "$set", Set) ∷
+    (codes "$unset", Unset) ∷
+    (codes "$inc", Inc) ∷
     [])
 
 -- the filter that these make together

@@ -1,5 +1,5 @@
 -- The update that a value is, after the update documents of the MongoDB manual.
-use Rattle.std.specs.Prelude.{ℕ, Bool, true, false, List, [], ◌∷◌, Option, Some, None, Result, Ok, Err, if◌then◌else◌}
+use Rattle.std.specs.Prelude.{ℕ, Bool, true, false, List, [], ◌∷◌, Option, Some, None, Result, Ok, Err, if◌then◌else◌, codes}
 use Rattle.bson_core.specs.declared.value.Value.{Value}
 use Rattle.bson_core.specs.declared.value.Value.TheVariants.{Null}
 use Rattle.bson_core.specs.declared.value.Value.TheOpen as of
@@ -43,7 +43,7 @@ ops_of operator = ops_in operator.0 (kind_of operator.0) (out-Value operator.1)
 
 -- the name `u`, under which a statement has an update
 abbrev pub update_name : List ℕ
-update_name = 117 ∷ []
+update_name = codes "u"
 
 -- operators, where the first name begins with `$`, else a replacement with its names as they come
 abbrev pub update_in : Value-F Value → Result Update CrudErr

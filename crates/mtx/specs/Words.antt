@@ -1,10 +1,10 @@
 -- The words of the command line. The only command so far is `play`.
-use Rattle.std.specs.Prelude.{ℕ, List, [], ◌∷◌, Option, Some, None, if◌then◌else◌}
+use Rattle.std.specs.Prelude.{ℕ, List, [], ◌∷◌, Option, Some, None, if◌then◌else◌, codes}
 use Rattle.std.specs.Str.{bytes_eq}
 
 -- the word `play`
 abbrev pub play : List ℕ
-play = 112 ∷ 108 ∷ 97 ∷ 121 ∷ []
+play = codes "play"
 
 -- the words behind `play`: there are none
 abbrev pub behind_play : List (List ℕ) → Option ℕ
