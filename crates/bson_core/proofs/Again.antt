@@ -10,6 +10,7 @@ use Rattle.std.proofs.lemmas.List.Sums.{position_or_len_is}
 use Rattle.std.proofs.lemmas.Nat.{from_le_bytes-to_le_bytes_4, from_le_bytes-to_le_bytes_8}
 use Rattle.std.proofs.lemmas.Int.{to_z-of_z}
 use Rattle.std.proofs.Math.Facts.{Fits-of_z}
+use Rattle.outcomes.specs.Bind.{◌>>=◌}
 use Rattle.bson_core.specs.declared.error.BsonErr.{BsonErr}
 use Rattle.bson_core.specs.declared.kind.Leaf.TheVariants as leaf
 use Rattle.bson_core.specs.declared.kind.Kind.{Kind}
@@ -23,7 +24,7 @@ use Rattle.bson_core.specs.Kinds.{kind_of}
 use Rattle.bson_core.specs.Fields.{Document}
 use Rattle.bson_core.specs.Spelling.{text, framed, binary, bit}
 use Rattle.bson_core.specs.Grammar.{ReadsAt, reads_leaf, reads_step, ReadsElements}
-use Rattle.bson_core.specs.Reading.{◌>>=◌, place, number_at, count_at, fixed_at, name_at, text_at, binary_at, object_id_at, flag_at, leaf_at, Reader, Nested, value_by, element_at, elements_at, body_at, document_at, nested_at}
+use Rattle.bson_core.specs.Reading.{place, number_at, count_at, fixed_at, name_at, text_at, binary_at, object_id_at, flag_at, leaf_at, Reader, Nested, value_by, element_at, elements_at, body_at, document_at, nested_at}
 use Rattle.bson_core.proofs.Names.{not_zero_at}
 use Rattle.bson_core.proofs.TypeBytes.{not_the_end}
 

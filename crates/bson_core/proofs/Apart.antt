@@ -2,13 +2,13 @@
 use Rattle.std.proofs.Common.{◌≡◌, ℕ, ◌+◌, ◌^◌, ◌<◌, List, [], ◌∷◌, ◌++◌, length, Result, Ok, sym, ap, ◌∙◌, arith}
 use Rattle.std.specs.Int.{w32}
 use Rattle.std.proofs.lemmas.List.{append-nil, nil_from_length, length-append}
+use Rattle.outcomes.proofs.Binding.{ok_is}
 use Rattle.bson_core.specs.declared.error.BsonErr.{BsonErr}
 use Rattle.bson_core.specs.Fields.{Document}
 use Rattle.bson_core.specs.Spelling.{framed}
 use Rattle.bson_core.specs.Grammar.{Reads}
 use Rattle.bson_core.specs.Reading.{fixed_at}
 use Rattle.bson_core.proofs.Lengths.{length_framed}
-use Rattle.bson_core.proofs.Sound.{ok_is}
 use Rattle.bson_core.proofs.Whole.{count_in_front, whole_again}
 
 pub one_document : (a b : Document) (bytes : List ℕ) → Reads 100 a bytes → Reads 100 b bytes → a ≡ b

@@ -2,12 +2,13 @@
 use Rattle.std.proofs.Common.{◌≡◌, ℕ, suc, ◌-◌, ◌+◌, ◌≤◌, ◌<◌, Bool, true, false, List, [], ◌∷◌, ◌++◌, Some, None, Result, Ok, Err, refl, sym, ap, ◌∙◌, append_assoc, arith}
 use Rattle.std.specs.Bool.{MatchBool}
 use Rattle.std.proofs.lemmas.List.{append-nil}
+use Rattle.outcomes.specs.Bind.{◌>>=◌}
 use Rattle.outcomes.specs.Outcome.{Refuses}
 use Rattle.bson_core.specs.declared.error.BsonErr.{BsonErr}
 use Rattle.bson_core.specs.declared.error.BsonErr.TheVariants.{Length}
 use Rattle.bson_core.specs.declared.value.Value.{Value}
 use Rattle.bson_core.specs.Fields.{Document}
-use Rattle.bson_core.specs.Reading.{◌>>=◌, is_memory, Reader, element_at, elements_at}
+use Rattle.bson_core.specs.Reading.{is_memory, Reader, element_at, elements_at}
 
 -- what was read before, and what is still read
 abbrev pub with_front : Document → Result Document BsonErr → Result Document BsonErr

@@ -10,6 +10,8 @@ use Rattle.std.proofs.lemmas.Bool.{cases_lt, ltb-false, ltb-true, eqb-true, eqb-
 use Rattle.std.proofs.lemmas.List.{take-append-drop, length-take, length-drop, get_or-drop, get_or-take, get_or_past, take_more}
 use Rattle.std.proofs.lemmas.List.Sums.{split_at_first, passes_at_first}
 use Rattle.std.proofs.lemmas.Nat.{le_bytes_4, le_bytes_8}
+use Rattle.outcomes.specs.Bind.{◌>>=◌}
+use Rattle.outcomes.proofs.Binding.{bind_ok, passed, held, ok_is}
 use Rattle.bson_core.specs.declared.error.BsonErr.{BsonErr}
 use Rattle.bson_core.specs.declared.error.BsonErr.TheVariants.{Short, Length}
 use Rattle.bson_core.specs.declared.error.BsonErr.TheVariants as fault
@@ -26,7 +28,7 @@ use Rattle.bson_core.specs.Kinds.{leaf_byte, kind_byte, kind_of}
 use Rattle.bson_core.specs.Fields.{Document}
 use Rattle.bson_core.specs.Spelling.{text, framed, binary, bit}
 use Rattle.bson_core.specs.Grammar.{Relation, values_of, ReadsAt, reads_leaf, reads_step, ReadsElements, IsFramed}
-use Rattle.bson_core.specs.Reading.{◌>>=◌, Field, place, or_fault, number_at, count_at, fixed_at, cut_at, name_at, text_at, binary_at, object_id_at, flag_at, leaf_at, Reader, value_by, element_at, elements_at, body_at, document_at, nested_at}
+use Rattle.bson_core.specs.Reading.{Field, place, or_fault, number_at, count_at, fixed_at, cut_at, name_at, text_at, binary_at, object_id_at, flag_at, leaf_at, Reader, value_by, element_at, elements_at, body_at, document_at, nested_at}
 use Rattle.bson_core.proofs.Names.{no_zero_before}
 use Rattle.bson_core.proofs.TypeBytes.{kind_found}
 use Rattle.bson_core.proofs.Again.{none_again}
@@ -49,21 +51,6 @@ input-take n bytes h = record {
 }
 
 -- The steps of a reader that gave something.
-
-pub bind_ok : {A B : Type 0} (r : Result A BsonErr) (f : A → Result B BsonErr) (y : B) → (r >>= f) ≡ Ok y → (x : A) × (r ≡ Ok x) × (f x ≡ Ok y)
-bind_ok (Ok x) f y e = (x, refl, e)
-bind_ok (Err d) f y e = absurd cc
-
-pub passed : {A : Type 0} (b : Bool) (d : BsonErr) (r : Result A BsonErr) (y : A) → cond b (Err d) r ≡ Ok y → (b ≡ false) × (r ≡ Ok y)
-passed true d r y e = absurd cc
-passed false d r y e = (refl, e)
-
-pub held : {A : Type 0} (b : Bool) (d : BsonErr) (r : Result A BsonErr) (y : A) → cond b r (Err d) ≡ Ok y → (b ≡ true) × (r ≡ Ok y)
-held true d r y e = (refl, e)
-held false d r y e = absurd cc
-
-pub ok_is : {A : Type 0} (x y : A) → ◌≡◌ {A = Result A BsonErr} (Ok x) (Ok y) → x ≡ y
-ok_is x y e = cc
 
 some_is : {A : Type 0} (x y : A) → ◌≡◌ {A = Option A} (Some x) (Some y) → x ≡ y
 some_is x y e = cc

@@ -4,6 +4,7 @@ use Rattle.std.specs.Prelude.{IfOk}
 use Rattle.std.specs.Int.{w32, to_le_bytes}
 use Rattle.std.proofs.lemmas.Bool.{ltb-false, le-ltb, eqb-true, eq-eqb}
 use Rattle.std.proofs.lemmas.List.{append-nil, nil_from_length, length-append}
+use Rattle.outcomes.proofs.Binding.{bind_ok, passed, held, ok_is}
 use Rattle.bson_core.specs.declared.error.BsonErr.{BsonErr}
 use Rattle.bson_core.specs.declared.error.BsonErr.TheVariants.{Short, Length, TooLarge}
 use Rattle.bson_core.specs.Fields.{Document}
@@ -11,7 +12,7 @@ use Rattle.bson_core.specs.Spelling.{framed}
 use Rattle.bson_core.specs.Grammar.{Reads}
 use Rattle.bson_core.specs.Reading.{Gives, fixed_at, document_at, nested_at, value_by, document_of}
 use Rattle.bson_core.proofs.Lengths.{length_framed}
-use Rattle.bson_core.proofs.Sound.{IsInput, bind_ok, passed, held, ok_is, nested_found, value_found}
+use Rattle.bson_core.proofs.Sound.{IsInput, nested_found, value_found}
 use Rattle.bson_core.proofs.Again.{number32_again, document_again, value_again}
 
 -- the count in front of a document

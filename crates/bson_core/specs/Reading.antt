@@ -5,6 +5,7 @@
 use Rattle.std.specs.Prelude.{ℕ, min, zero, suc, ◌+◌, ◌-◌, Bool, true, false, List, [], ◌∷◌, length, take, drop, slice_index, Option, Some, None, position, Result, Ok, Err, nat_lt, ◌==◌, if◌then◌else◌}
 use Rattle.std.specs.Int.{Width, w32, w64, byte_len, from_le_bytes, cast_signed}
 use Rattle.std.specs.Str.{is_utf8}
+use Rattle.outcomes.specs.Bind.{◌>>=◌}
 use Rattle.outcomes.specs.Outcome as outcome
 use Rattle.bson_core.specs.declared.error.BsonErr.{BsonErr}
 use Rattle.bson_core.specs.declared.error.BsonErr.TheVariants.{Short, Length, TooLarge, Memory, Deep}
@@ -20,11 +21,6 @@ use Rattle.bson_core.specs.declared.value.Value.TheOpen as of
 use Rattle.bson_core.specs.Fields.{Document}
 use Rattle.bson_core.specs.Grammar.{values_of}
 use Rattle.bson_core.specs.Kinds.{kind_of}
-
-infixl 10 ◌>>=◌
-abbrev pub ◌>>=◌ : {A B : Type 0} → Result A BsonErr → (A → Result B BsonErr) → Result B BsonErr
-(Ok x) >>= f = f x
-(Err e) >>= f = Err e
 
 -- want of memory, which no function on lists answers
 abbrev pub is_memory : BsonErr → Bool

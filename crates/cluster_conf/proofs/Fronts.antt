@@ -1,12 +1,13 @@
 -- Lists that are read value by value: what was read so far, in front of what is read of the rest.
 use Rattle.std.proofs.Common.{◌≡◌, ℕ, ◌+◌, ◌<◌, List, [], ◌∷◌, ◌++◌, length, get_or, drop, Option, Some, None, Result, Ok, Err, refl, ap, sym, ◌∙◌, append_assoc}
+use Rattle.outcomes.specs.Bind.{◌>>=◌}
 use Rattle.toml.specs.Data.{Items}
 use Rattle.toml.specs.View.{view, items_view}
 use Rattle.toml.specs.declared.value.Value.{Value}
 use Rattle.toml.proofs.Views.{items_view-drop}
 use Rattle.chunk_map.specs.declared.map.ChunkRow.{ChunkRow}
 use Rattle.cluster_conf.specs.declared.conf.ConfErr.{ConfErr}
-use Rattle.cluster_conf.specs.Conf.{text_in, with_text, texts_of, row_of, rows_of, ◌>>=◌}
+use Rattle.cluster_conf.specs.Conf.{text_in, with_text, texts_of, row_of, rows_of}
 
 abbrev pub with_texts : List (List ℕ) → Option (List (List ℕ)) → Option (List (List ℕ))
 with_texts front None = None

@@ -2,6 +2,7 @@
 use Rattle.std.specs.Prelude.{◌≡◌, ℕ, suc, ◌≤◌, ◌&&◌, ◌==◌, ℤ, pos, unsigned_abs, int_le, nat_le, nat_lt, Bool, true, false, List, [], ◌∷◌, codes, length, Option, Some, None, option_and_then, Result, Ok, Err, if◌then◌else◌}
 use Rattle.std.specs.List.{list_any, position_or_len, before_first, after_first}
 use Rattle.std.specs.Str.{bytes_eq}
+use Rattle.outcomes.specs.Bind.{◌>>=◌}
 use Rattle.outcomes.specs.Outcome as outcome
 use Rattle.toml.specs.Parse.{parse_document}
 use Rattle.toml.specs.Data.{Data, string, integer, array, table, Items, no_items, item, Members, no_members, member, get_member}
@@ -57,11 +58,6 @@ is_memory other = false
 -- the result is what is defined, or there was no memory
 abbrev pub Gives : {X Y : Type 0} → (X → Y) → Result X ConfErr → Result Y ConfErr → Type 0
 Gives view result defined = outcome.Gives is_memory view result defined
-
-infixl 10 ◌>>=◌
-abbrev pub ◌>>=◌ : {A B : Type 0} → Result A ConfErr → (A → Result B ConfErr) → Result B ConfErr
-(Ok x) >>= f = f x
-(Err e) >>= f = Err e
 
 -- what is told of a field that isn't as it has to be
 abbrev pub or_key : {A : Type 0} → List ℕ → Option A → Result A ConfErr

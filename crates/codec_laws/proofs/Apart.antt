@@ -2,13 +2,13 @@
 -- another's.
 use Rattle.std.proofs.Common.{◌≡◌, ℕ, ◌≤◌, max, List, [], ◌++◌, Result, Ok, sym, ap, ◌∙◌, arith}
 use Rattle.std.proofs.lemmas.List.{append-nil}
+use Rattle.outcomes.proofs.Binding.{ok_is}
 use Rattle.bson_core.specs.declared.error.BsonErr.{BsonErr}
 use Rattle.bson_core.specs.Fields.{Document}
 use Rattle.bson_core.specs.Spelling.{framed}
 use Rattle.bson_core.specs.Grammar.{ReadsAt, ReadsElements}
 use Rattle.bson_core.specs.Nesting.{nesting}
 use Rattle.bson_core.specs.Reading.{value_by, nested_at, document_at}
-use Rattle.bson_core.proofs.Sound.{ok_is}
 use Rattle.bson_core.proofs.Again.{document_again, value_again}
 use Rattle.bson_core.proofs.Apart.{no_front}
 use Rattle.codec_laws.specs.Spells.{Spells, IsRead}

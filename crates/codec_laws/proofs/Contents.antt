@@ -2,13 +2,14 @@
 use Rattle.std.proofs.Common.{◌≡◌, ℕ, zero, suc, ◌-◌, ◌+◌, ◌≤◌, ◌<◌, ◌||◌, Bool, true, false, cond, eqb, ltb, List, [], ◌∷◌, ◌++◌, length, take, drop, Option, Some, None, Result, Ok, Err, refl, sym, ap, ◌∙◌, arith}
 use Rattle.std.specs.Int.{w32, from_le_bytes}
 use Rattle.std.proofs.lemmas.Bool.{le-ltb, ltb-true, ltb-false}
+use Rattle.outcomes.specs.Bind.{◌>>=◌}
 use Rattle.bson_core.specs.declared.error.BsonErr.{BsonErr}
 use Rattle.bson_core.specs.declared.error.BsonErr.TheVariants as document
 use Rattle.bson_core.specs.Fields.{Document}
 use Rattle.bson_core.specs.Reading.{number_at, document_of}
 use Rattle.bson_core.specs.Reading as reading
 use Rattle.op_msg.specs.Message.{Sequence, has_flag}
-use Rattle.op_msg.specs.Reading.{◌>>=◌, or_fault, number, extent, as_message, document_at, documents_at, as_section, name_at, sequence_at, Found, with_body, section_at, finish, sections_at, least_flag, known_by, without_sum, contents_at, at_end, second_at, query_at}
+use Rattle.op_msg.specs.Reading.{or_fault, number, extent, as_message, document_at, documents_at, as_section, name_at, sequence_at, Found, with_body, section_at, finish, sections_at, least_flag, known_by, without_sum, contents_at, at_end, second_at, query_at}
 use Rattle.op_msg.specs.declared.frame.FrameErr.{FrameErr}
 use Rattle.op_msg.specs.declared.frame.FrameErr.TheVariants as message
 use Rattle.codec_laws.proofs.Outer.{fault_is_there}

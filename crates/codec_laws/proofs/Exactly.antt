@@ -3,13 +3,15 @@ use Rattle.std.proofs.Common.{◌≡◌, ◌↔◌, inl, inr, ℕ, ◌-◌, ◌+
 use Rattle.std.specs.Int.{w32, to_le_bytes}
 use Rattle.std.proofs.lemmas.Bool.{ltb-false, ltb-true, eqb-true, eqb-false}
 use Rattle.std.proofs.lemmas.List.{length-append, nil_from_length}
+use Rattle.outcomes.specs.Bind.{◌>>=◌}
+use Rattle.outcomes.proofs.Binding.{ok_is}
 use Rattle.bson_core.specs.declared.error.BsonErr.{BsonErr}
 use Rattle.bson_core.specs.declared.error.BsonErr.TheVariants as fault
 use Rattle.bson_core.specs.Fields.{Document}
 use Rattle.bson_core.specs.Written.{most}
-use Rattle.bson_core.specs.Reading.{◌>>=◌, place, or_fault, fixed_at, nested_at, document_of}
+use Rattle.bson_core.specs.Reading.{place, or_fault, fixed_at, nested_at, document_of}
 use Rattle.bson_core.proofs.Again.{number32_again}
-use Rattle.bson_core.proofs.Sound.{IsInput, ok_is}
+use Rattle.bson_core.proofs.Sound.{IsInput}
 use Rattle.codec_laws.specs.Faults.{number_from}
 use Rattle.codec_laws.specs.First.{HasWrongCount, Holds, IsFirst, HasFirst, IsTold}
 use Rattle.codec_laws.proofs.Outer.{front_number, short_is, large_is, count_is}

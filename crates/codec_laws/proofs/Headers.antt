@@ -2,10 +2,11 @@
 use Rattle.std.proofs.Common.{◌≡◌, ◌⊎◌, inl, inr, ℕ, ◌+◌, ◌≤◌, ◌<◌, ◌&&◌, Bool, true, false, cond, not, eqb, ltb, List, [], length, drop, Result, Ok, Err, refl, sym, subst, ◌∙◌, arith}
 use Rattle.std.proofs.lemmas.Bool.{cases_lt, le-ltb, lt-ltb, ltb-false, ltb-true, eqb-true, eqb-false, eq-eqb, ne_eqb}
 use Rattle.std.proofs.lemmas.List.{length-drop, drop-drop}
+use Rattle.outcomes.specs.Bind.{◌>>=◌}
 use Rattle.bson_core.specs.Fields.{Document}
 use Rattle.bson_core.specs.Reading.{number_at}
 use Rattle.op_msg.specs.Message.{Sequence, is_internal}
-use Rattle.op_msg.specs.Reading.{◌>>=◌, contents_at, query_at, is_older, header_number, header_at, contents_within, frame_by, is_length, frame_of}
+use Rattle.op_msg.specs.Reading.{contents_at, query_at, is_older, header_number, header_at, contents_within, frame_by, is_length, frame_of}
 use Rattle.op_msg.specs.declared.header.Header.{Header}
 use Rattle.op_msg.specs.declared.frame.Frame.{Frame}
 use Rattle.op_msg.specs.declared.frame.FrameErr.{FrameErr}

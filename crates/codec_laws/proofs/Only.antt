@@ -7,6 +7,8 @@ use Rattle.std.proofs.Math.Seq.{drop-cons}
 use Rattle.std.proofs.lemmas.Bool.{ltb-false, ltb-true, eqb-true, eqb-false}
 use Rattle.std.proofs.lemmas.List.{length-append, length-take, length-drop, take-append-drop, append-nil}
 use Rattle.std.proofs.lemmas.List.Sums.{passes_at_first}
+use Rattle.outcomes.specs.Bind.{◌>>=◌}
+use Rattle.outcomes.proofs.Binding.{bind_ok, passed, ok_is}
 use Rattle.bson_core.specs.declared.error.BsonErr.{BsonErr}
 use Rattle.bson_core.specs.declared.error.BsonErr.TheVariants as fault
 use Rattle.bson_core.specs.declared.kind.Kind.{Kind}
@@ -18,11 +20,11 @@ use Rattle.bson_core.specs.Fields.{Document}
 use Rattle.bson_core.specs.Grammar.{ReadsAt, ReadsElements}
 use Rattle.bson_core.specs.Kinds.{kind_of, kind_byte, leaf_byte}
 use Rattle.bson_core.specs.Names.{has_no_zero, IsName}
-use Rattle.bson_core.specs.Reading.{◌>>=◌, Field, place, or_fault, number_at, count_at, fixed_at, cut_at, name_at, text_at, binary_at, object_id_at, flag_at, leaf_at, Reader, value_by, element_at, elements_at, body_at, document_at, nested_at}
+use Rattle.bson_core.specs.Reading.{Field, place, or_fault, number_at, count_at, fixed_at, cut_at, name_at, text_at, binary_at, object_id_at, flag_at, leaf_at, Reader, value_by, element_at, elements_at, body_at, document_at, nested_at}
 use Rattle.bson_core.proofs.Names.{no_zero_before}
 use Rattle.bson_core.proofs.TypeBytes.{kind_found}
 use Rattle.bson_core.proofs.Again.{none_again}
-use Rattle.bson_core.proofs.Sound.{IsInput, input-drop, input-take, bind_ok, passed, ok_is, no_fault, Is32, number32, name_found, IsSound, value_found}
+use Rattle.bson_core.proofs.Sound.{IsInput, input-drop, input-take, no_fault, Is32, number32, name_found, IsSound, value_found}
 use Rattle.codec_laws.specs.First.{headed, IsNoKind, IsEarlyEnd, IsNoName, HasWidth, oid, truth, moment, int, stamp, long, IsWrongCount, text_none, text_past, binary_past, IsNoValue, IsAtHead, Nests, HasWrongCount, Holds, Behind, IsWrongEnd, IsFirst}
 use Rattle.codec_laws.proofs.Firsts.{Deepest, Higher}
 

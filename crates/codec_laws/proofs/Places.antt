@@ -5,6 +5,7 @@ use Rattle.std.specs.Str.{is_utf8}
 use Rattle.std.specs.List.{position_or_len}
 use Rattle.std.proofs.lemmas.Bool.{ltb-false, ltb-true, eqb-false}
 use Rattle.std.proofs.lemmas.List.{length-take, length-drop, get_or-drop, get_or-take}
+use Rattle.outcomes.specs.Bind.{◌>>=◌}
 use Rattle.bson_core.specs.declared.error.BsonErr.{BsonErr}
 use Rattle.bson_core.specs.declared.error.BsonErr.TheVariants as fault
 use Rattle.bson_core.specs.declared.kind.Leaf.{Leaf}
@@ -14,7 +15,7 @@ use Rattle.bson_core.specs.declared.kind.Kind.TheVariants as kind
 use Rattle.bson_core.specs.declared.value.Value.{Value}
 use Rattle.bson_core.specs.Fields.{Document}
 use Rattle.bson_core.specs.Kinds.{kind_of}
-use Rattle.bson_core.specs.Reading.{◌>>=◌, Field, place, or_fault, number_at, count_at, fixed_at, cut_at, name_at, text_at, binary_at, object_id_at, flag_at, leaf_at, Reader, Nested, value_by, behind, element_at, elements_at, body_at, document_at, nested_at}
+use Rattle.bson_core.specs.Reading.{Field, place, or_fault, number_at, count_at, fixed_at, cut_at, name_at, text_at, binary_at, object_id_at, flag_at, leaf_at, Reader, Nested, value_by, behind, element_at, elements_at, body_at, document_at, nested_at}
 
 -- the bytes are those of the whole up to that place
 record Stands (whole : List ℕ) (end : ℕ) (bytes : List ℕ) : Type 0 where

@@ -4,6 +4,7 @@ use Rattle.std.specs.Prelude.{◌&&◌, ◌||◌, not, option_map, option_and_th
 use Rattle.std.specs.List.{find, filter_map}
 use Rattle.std.specs.Option.{option_or}
 use Rattle.std.specs.Str.{bytes_eq}
+use Rattle.outcomes.specs.Bind.{◌>>=◌}
 use Rattle.bson_core.specs.declared.value.Value.{Value}
 use Rattle.bson_core.specs.declared.value.Value.TheViews.{out-Value}
 use Rattle.bson_core.specs.Fields.{value_of}
@@ -29,7 +30,7 @@ use Rattle.client_cmd.specs.declared.request.Request.TheVariants as request
 use Rattle.client_cmd.specs.declared.error.CmdErr.{CmdErr}
 use Rattle.client_cmd.specs.declared.error.CmdErr.TheVariants.{Unacknowledged, RetryWrite}
 use Rattle.client_cmd.specs.Tokens.{token_in}
-use Rattle.client_cmd.specs.Commands.{◌>>=◌, as_command, first_name, command_in, served, wants_no_answer, is_unacknowledged, is_write, is_retried, seen_time, after_time, at_time, is_ahead, time_ahead, not_ahead, is_true, txn_by, txn_in, statement_txn, sessions_by, request_by, refused_where, request_of}
+use Rattle.client_cmd.specs.Commands.{as_command, first_name, command_in, served, wants_no_answer, is_unacknowledged, is_write, is_retried, seen_time, after_time, at_time, is_ahead, time_ahead, not_ahead, is_true, txn_by, txn_in, statement_txn, sessions_by, request_by, refused_where, request_of}
 use Rattle.command_laws.specs.Fields.{is_ignored}
 
 -- a list of documents has this name; it may be a section
@@ -146,7 +147,7 @@ pub checked_alike : (c : Command) (f g : Frame) → Alike c f g → checked c f 
 unfolding checked
 checked_alike c f g a =
     let lacks = lacks_alike c f g a in
-    λ i. parsing.◌>>=◌ (a.fields i) (λ inside. present (option_or inside (lacks i)))
+    λ i. ◌>>=◌ (a.fields i) (λ inside. present (option_or inside (lacks i)))
 
 -- What is asked.
 
@@ -166,27 +167,27 @@ namespace_alike : (s : Statement) (f g : Frame) → Alike (command.Statement s) 
 namespace_alike s f g a =
     let database = a.values (codes "$db") (looks (command.Statement s)).database refl in
     let collection = a.values (name_of s) (name_looked s) (name_unlisted s) in
-    λ i. parsing.◌>>=◌ (parsing.◌>>=◌ (or_missing (codes "$db") (database i)) (λ value. text_in (codes "$db") (out-Value value))) (λ database.
-    parsing.◌>>=◌ (parsing.◌>>=◌ (or_missing (name_of s) (collection i)) (λ value. text_in (name_of s) (out-Value value))) (λ collection. joined_names s database collection))
+    λ i. ◌>>=◌ (◌>>=◌ (or_missing (codes "$db") (database i)) (λ value. text_in (codes "$db") (out-Value value))) (λ database.
+    ◌>>=◌ (◌>>=◌ (or_missing (name_of s) (collection i)) (λ value. text_in (name_of s) (out-Value value))) (λ collection. joined_names s database collection))
 
 built_alike : (s : Statement) (ns : List ℕ) (f g : Frame) → Alike (command.Statement s) f g → built s ns f ≡ built s ns g
-built_alike statement.Insert ns f g a = let docs = a.lists Documents refl in λ i. parsing.◌>>=◌ (parsing.◌>>=◌ (docs i) (each_at insert_item 0)) (λ docs. Ok (op.Insert ns docs))
+built_alike statement.Insert ns f g a = let docs = a.lists Documents refl in λ i. ◌>>=◌ (◌>>=◌ (docs i) (each_at insert_item 0)) (λ docs. Ok (op.Insert ns docs))
 built_alike statement.Find ns f g a =
     let filters = a.values (codes "filter") refl refl in
     let sorts = a.values (codes "sort") refl refl in
     let limits = a.values (codes "limit") refl refl in
-    λ i. parsing.◌>>=◌ (given_or (And []) (λ value. inner_by filter_of (codes "filter") (out-Value value)) (filters i)) (λ filter.
-    parsing.◌>>=◌ (given_or false (λ value. or_wrong (codes "sort") (falls_in (out-Value value))) (sorts i)) (λ down.
-    parsing.◌>>=◌ (given_or 0 (λ value. or_wrong (codes "limit") (limit_in (out-Value value))) (limits i)) (λ limit. Ok (op.Find ns filter down limit))))
-built_alike statement.Update ns f g a = let docs = a.lists (Changes Update) refl in λ i. parsing.◌>>=◌ (parsing.◌>>=◌ (docs i) (each_at update_item 0)) (λ items. Ok (op.Update ns items))
-built_alike statement.Delete ns f g a = let docs = a.lists (Changes Delete) refl in λ i. parsing.◌>>=◌ (parsing.◌>>=◌ (docs i) (each_at delete_item 0)) (λ items. Ok (op.Delete ns items))
+    λ i. ◌>>=◌ (given_or (And []) (λ value. inner_by filter_of (codes "filter") (out-Value value)) (filters i)) (λ filter.
+    ◌>>=◌ (given_or false (λ value. or_wrong (codes "sort") (falls_in (out-Value value))) (sorts i)) (λ down.
+    ◌>>=◌ (given_or 0 (λ value. or_wrong (codes "limit") (limit_in (out-Value value))) (limits i)) (λ limit. Ok (op.Find ns filter down limit))))
+built_alike statement.Update ns f g a = let docs = a.lists (Changes Update) refl in λ i. ◌>>=◌ (◌>>=◌ (docs i) (each_at update_item 0)) (λ items. Ok (op.Update ns items))
+built_alike statement.Delete ns f g a = let docs = a.lists (Changes Delete) refl in λ i. ◌>>=◌ (◌>>=◌ (docs i) (each_at delete_item 0)) (λ items. Ok (op.Delete ns items))
 
 pub op_alike : (s : Statement) (f g : Frame) → Alike (command.Statement s) f g → op_of s f ≡ op_of s g
 unfolding op_of
 op_alike s f g a =
     let check = checked_alike (command.Statement s) f g a in
     let namespace = namespace_alike s f g a in
-    λ i. parsing.◌>>=◌ (check i) (λ u. parsing.◌>>=◌ (namespace i) (λ ns. built_alike s ns f g a i))
+    λ i. ◌>>=◌ (check i) (λ u. ◌>>=◌ (namespace i) (λ ns. built_alike s ns f g a i))
 
 -- a time in a document in a field
 time_alike : (inner : List ℕ) (v w : Option Value) → v ≡ w

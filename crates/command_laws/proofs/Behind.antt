@@ -2,6 +2,7 @@
 use Rattle.std.proofs.Common.{◌≡◌, ◌⊎◌, inl, inr, ℕ, Bool, true, false, cond, List, [], ◌∷◌, ◌++◌, map, Option, Some, None, is_some, refl, sym, ap, subst, ◌∙◌, append_assoc}
 use Rattle.std.specs.Prelude.{◌||◌}
 use Rattle.std.specs.Str.{bytes_eq}
+use Rattle.outcomes.specs.Bind.{◌>>=◌}
 use Rattle.bson_core.specs.declared.value.Value.{Value}
 use Rattle.bson_core.specs.Fields.{Document, value_of}
 use Rattle.op_msg.specs.Message.{Sequence}
@@ -71,7 +72,7 @@ same_alike c f g legacy more values given fields = record {
   more = more;
   values = λ name looked unlisted. values name;
   there = λ name looked. ap (λ (o : Option Given). is_some o) (given name);
-  lists = λ b looked. ap (λ (o : Option Given). parsing.◌>>=◌ (or_missing (list_name b) o) (batch_in b)) (given (list_name b));
+  lists = λ b looked. ap (λ (o : Option Given). ◌>>=◌ (or_missing (list_name b) o) (batch_in b)) (given (list_name b));
   fields = ap (check_each (field_check c)) fields;
 }
 

@@ -4,7 +4,7 @@ use Rattle.std.specs.Prelude.{◌||◌}
 use Rattle.std.specs.Str.{bytes_eq}
 use Rattle.std.proofs.lemmas.List.{append-nil}
 use Rattle.std.proofs.lemmas.Slice.Eq.{bytes_eq-Decides}
-use Rattle.crud_parse.specs.Results.{◌>>=◌}
+use Rattle.outcomes.specs.Bind.{◌>>=◌}
 use Rattle.command_parse.specs.Checks.{Checked, behind, check_each, is_among, firsts_behind}
 use Rattle.command_laws.specs.Fields.{names_of}
 

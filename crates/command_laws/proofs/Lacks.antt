@@ -3,6 +3,7 @@ use Rattle.std.proofs.Common.{◌≡◌, ℕ, zero, suc, Bool, true, false, List
 use Rattle.std.specs.Prelude.{◌&&◌, nat_le, length}
 use Rattle.std.specs.Option.{option_or, option_and_then}
 use Rattle.std.specs.Str.{bytes_eq}
+use Rattle.outcomes.specs.Bind.{◌>>=◌}
 use Rattle.bson_core.specs.declared.value.Value.{Value}
 use Rattle.bson_core.specs.declared.value.Value.TheOpen as of
 use Rattle.bson_core.specs.declared.value.Value.TheOpen.{Value-F}
@@ -20,7 +21,7 @@ use Rattle.crud_parse.specs.declared.error.CrudErr.TheVariants as refusal
 use Rattle.crud_parse.specs.declared.operators.Junction.{Junction}
 use Rattle.crud_parse.specs.declared.operators.Operator.{Operator}
 use Rattle.crud_parse.specs.declared.operators.Operator.TheVariants as asks
-use Rattle.crud_parse.specs.Results.{◌>>=◌, each, each_of}
+use Rattle.crud_parse.specs.Results.{each, each_of}
 use Rattle.crud_parse.specs.Names.{begins_with_dollar, has_full_stop, begins_with_operator}
 use Rattle.crud_parse.specs.Operators.{junction_of, operator_of, kind_of}
 use Rattle.crud_parse.specs.Filters.{list_in, flag_in, asked, condition, operators_in, meets, are_documents, Reader, inner_by, filters_by, named_by, element_by, filter_by, filter_at, filter_of}
@@ -320,7 +321,7 @@ parsed_case (refusal.DottedName other) name is = absurd cc
 parsed_case (refusal.WrongKind other) name is = absurd cc
 parsed_case (refusal.UnknownField other) name is = absurd cc
 
-parsed : {A : Type 0} (r : Result A CrudErr) (f : A → Request) (name : List ℕ) → client.◌>>=◌ (as_command r) (λ x. Ok (f x)) ≡ Err (why.Parse (refusal.Missing name)) → r ≡ Err (refusal.Missing name)
+parsed : {A : Type 0} (r : Result A CrudErr) (f : A → Request) (name : List ℕ) → ◌>>=◌ (as_command r) (λ x. Ok (f x)) ≡ Err (why.Parse (refusal.Missing name)) → r ≡ Err (refusal.Missing name)
 parsed (Ok x) f name is = absurd cc
 parsed (Err e) f name is = ap (λ (d : CrudErr). Err d) (parsed_case e name (let same : from_parsing e ≡ why.Parse (refusal.Missing name) = cc in same))
 
@@ -333,11 +334,11 @@ by_passed command.Abort frame name is = checked_passed command.Abort frame name 
 by_passed command.EndSessions frame name is = checked_passed command.EndSessions frame name (parsed (checked command.EndSessions frame) _ name is)
 
 -- what comes before
-unrefused : {A : Type 0} (b : Bool) (e : CmdErr) (r : Result A CmdErr) (d : CmdErr) → (e ≡ d → ⊥) → client.◌>>=◌ (refused_where b e) (λ u. r) ≡ Err d → (b ≡ false) × (r ≡ Err d)
+unrefused : {A : Type 0} (b : Bool) (e : CmdErr) (r : Result A CmdErr) (d : CmdErr) → (e ≡ d → ⊥) → ◌>>=◌ (refused_where b e) (λ u. r) ≡ Err d → (b ≡ false) × (r ≡ Err d)
 unrefused true e r d other is = absurd (other (let same : e ≡ d = cc in same))
 unrefused false e r d other is = (refl, is)
 
-near : {A : Type 0} (wall : ℕ) (o : Option ℕ) (r : Result A CmdErr) (name : List ℕ) → client.◌>>=◌ (not_ahead wall o) (λ u. r) ≡ Err (why.Parse (refusal.Missing name)) → (o ≡ None) × (r ≡ Err (why.Parse (refusal.Missing name)))
+near : {A : Type 0} (wall : ℕ) (o : Option ℕ) (r : Result A CmdErr) (name : List ℕ) → ◌>>=◌ (not_ahead wall o) (λ u. r) ≡ Err (why.Parse (refusal.Missing name)) → (o ≡ None) × (r ≡ Err (why.Parse (refusal.Missing name)))
 near wall None r name is = (refl, is)
 near wall (Some time) r name is = absurd cc
 
@@ -348,7 +349,7 @@ asked_right wall frame c name known is =
     let third = near wall (time_ahead wall frame.body) (request_by c frame) name second.1 in
     record { command = c; known = known; answered = first.0; once = second.0; near = third.0; fields = by_passed c frame name third.1 }
 
-known_case : (wall : ℕ) (frame : Frame) (name : List ℕ) (r : Result Command CmdErr) → command_in frame ≡ r → client.◌>>=◌ r (asked_as wall frame) ≡ Err (why.Parse (refusal.Missing name)) → ((d : CmdErr) → r ≡ Err d → d ≡ why.Parse (refusal.Missing name) → ⊥) → IsElseRight wall frame
+known_case : (wall : ℕ) (frame : Frame) (name : List ℕ) (r : Result Command CmdErr) → command_in frame ≡ r → ◌>>=◌ r (asked_as wall frame) ≡ Err (why.Parse (refusal.Missing name)) → ((d : CmdErr) → r ≡ Err d → d ≡ why.Parse (refusal.Missing name) → ⊥) → IsElseRight wall frame
 known_case wall frame name (Ok c) known is other = asked_right wall frame c name known is
 known_case wall frame name (Err d) known is other = absurd (other d refl (let same : d ≡ why.Parse (refusal.Missing name) = cc in same))
 

@@ -3,6 +3,7 @@ use Rattle.std.proofs.Common.{◌≡◌, ℕ, Bool, true, false, cond, List, [],
 use Rattle.std.specs.Str.{bytes_eq}
 use Rattle.std.proofs.lemmas.List.{append-nil}
 use Rattle.std.proofs.lemmas.Slice.Eq.{bytes_eq-Decides}
+use Rattle.outcomes.specs.Bind.{◌>>=◌}
 use Rattle.bson_core.specs.declared.value.Value.{Value}
 use Rattle.bson_core.specs.declared.value.Value.TheOpen as of
 use Rattle.bson_core.specs.declared.value.Value.TheOpen.{Value-F}
@@ -11,7 +12,7 @@ use Rattle.bson_core.specs.declared.value.Value.TheViews.{out-Value, roll-Value,
 use Rattle.bson_core.specs.Fields.{Document, value_of}
 use Rattle.op_msg.specs.declared.frame.Frame.{Frame}
 use Rattle.crud_parse.specs.declared.error.CrudErr.{CrudErr}
-use Rattle.crud_parse.specs.Results.{◌>>=◌, each, with_front}
+use Rattle.crud_parse.specs.Results.{each, with_front}
 use Rattle.crud_parse.specs.Operators.{beside}
 use Rattle.command_parse.specs.declared.command.Command.{Command}
 use Rattle.command_parse.specs.declared.command.Command.TheVariants as command

@@ -4,6 +4,7 @@ use Rattle.std.specs.Prelude.{◌&&◌, ◌||◌, not}
 use Rattle.std.specs.Option.{option_or}
 use Rattle.std.specs.Str.{bytes_eq}
 use Rattle.std.proofs.lemmas.Slice.Eq.{bytes_eq-Decides}
+use Rattle.outcomes.specs.Bind.{◌>>=◌}
 use Rattle.bson_core.specs.declared.value.Value.{Value}
 use Rattle.bson_core.specs.Fields.{Document, value_of}
 use Rattle.op_msg.specs.Message.{Sequence}
@@ -87,7 +88,7 @@ ignored_alike c frame front back field free none =
       more = refl;
       values = λ name looked unlisted. values name looked;
       there = λ name looked. ap (λ (o : Option Given). is_some o) (given name looked);
-      lists = λ b looked. ap (λ (o : Option Given). parsing.◌>>=◌ (or_missing (list_name b) o) (batch_in b)) (given (list_name b) looked);
+      lists = λ b looked. ap (λ (o : Option Given). ◌>>=◌ (or_missing (list_name b) o) (batch_in b)) (given (list_name b) looked);
       fields = ap (λ (l : List Field). check_each (field_check c) (firsts l)) (in_midst front back field sections)
           ∙ ignored (field_check c) (in_body field) (map in_body back ++ sections) (map in_body front) [] (ignored_passes c field.0 field.1 free) pass
           ∙ sym (ap (λ (l : List Field). check_each (field_check c) (firsts l)) (without_it front back sections));

@@ -3,7 +3,7 @@ use Rattle.std.proofs.Common.{◌≡◌, ℕ, suc, ◌+◌, ◌<◌, false, List
 use Rattle.std.proofs.Math.ListN.{get_or}
 use Rattle.std.proofs.Math.Seq.{drop-cons}
 use Rattle.std.specs.Option.{option_or}
-use Rattle.crud_parse.specs.Results.{◌>>=◌}
+use Rattle.outcomes.specs.Bind.{◌>>=◌}
 use Rattle.command_parse.specs.Checks.{Checked, behind, check_each, is_among, firsts_behind}
 
 pub behind_behind : (first second : Option (List ℕ)) (more : Checked) → behind (option_or first second) more ≡ behind first (behind second more)

@@ -4,12 +4,13 @@ use Rattle.std.specs.Prelude.{◌||◌}
 use Rattle.std.specs.Option.{option_or}
 use Rattle.std.proofs.lemmas.Slice.Eq.{bytes_eq-Decides}
 use Rattle.std.specs.Str.{bytes_eq}
+use Rattle.outcomes.specs.Bind.{◌>>=◌}
+use Rattle.outcomes.proofs.Binding.{bind_ok}
 use Rattle.bson_core.specs.declared.value.Value.{Value}
 use Rattle.bson_core.specs.Fields.{Document, value_of}
 use Rattle.op_msg.specs.declared.frame.Frame.{Frame}
 use Rattle.txn_types.specs.declared.operation.Op.{Op}
 use Rattle.crud_parse.specs.declared.error.CrudErr.{CrudErr}
-use Rattle.crud_parse.specs.Results.{◌>>=◌}
 use Rattle.command_parse.specs.declared.command.Command.{Command}
 use Rattle.command_parse.specs.declared.command.Command.TheVariants as command
 use Rattle.command_parse.specs.declared.command.Statement.{Statement}
@@ -21,10 +22,6 @@ use Rattle.command_parse.specs.Operations.{Field, in_body, in_section, fields_of
 use Rattle.command_parse.proofs.Lacking.{body_field}
 
 -- Results that were given.
-
-pub bind_ok : {A B : Type 0} (r : Result A CrudErr) (f : A → Result B CrudErr) (y : B) → (r >>= f) ≡ Ok y → (x : A) × (r ≡ Ok x) × (f x ≡ Ok y)
-bind_ok (Ok x) f y e = (x, refl, e)
-bind_ok (Err d) f y e = absurd cc
 
 none_present : (missing : Option (List ℕ)) (u : Unit {0}) → present missing ≡ Ok u → missing ≡ None
 none_present None u e = refl

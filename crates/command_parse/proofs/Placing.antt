@@ -2,6 +2,9 @@
 use Rattle.std.proofs.Common.{◌≡◌, ◌≤◌, ℕ, ◌+◌, Bool, true, false, cond, leb, List, [], ◌∷◌, ◌++◌, length, map, Result, Ok, Err, refl, sym, ap, subst, ◌∙◌, arith, codes, is_some}
 use Rattle.std.specs.Prelude.{◌&&◌}
 use Rattle.std.proofs.lemmas.Bool.{leb-true}
+use Rattle.outcomes.specs.Bind.{◌>>=◌}
+use Rattle.outcomes.proofs.Binding.{ok_is}
+use Rattle.outcomes.proofs.Binding.{bind_ok}
 use Rattle.bson_core.specs.Fields.{Document}
 use Rattle.op_msg.specs.declared.frame.Frame.{Frame}
 use Rattle.txn_types.specs.Ids.{id_name, id_in}
@@ -12,7 +15,7 @@ use Rattle.txn_types.specs.declared.operation.UpdateItem.{UpdateItem}
 use Rattle.txn_types.specs.declared.operation.DeleteItem.{DeleteItem}
 use Rattle.crud_parse.specs.declared.error.CrudErr.{CrudErr}
 use Rattle.crud_parse.specs.declared.error.CrudErr.TheVariants.{WrongKind, Missing}
-use Rattle.crud_parse.specs.Results.{◌>>=◌, with_front}
+use Rattle.crud_parse.specs.Results.{with_front}
 use Rattle.command_parse.specs.declared.command.Command.TheVariants as command
 use Rattle.command_parse.specs.declared.command.Statement.{Statement}
 use Rattle.command_parse.specs.declared.command.Statement.TheVariants as statement
@@ -29,10 +32,6 @@ use Rattle.command_parse.specs.Items.{Given, InBody, InSection, documents_in, of
 use Rattle.command_parse.specs.Operations.{checked, namespace_in, given_in, batch_under, filter_under, falls_under, limit_under, built, op_of}
 use Rattle.command_parse.specs.Places.{counted, HasPlaces}
 use Rattle.bson_core.specs.declared.value.Value.TheViews.{out-Value}
-use Rattle.command_parse.proofs.Checked.{bind_ok}
-
-ok_is : {A : Type 0} (x y : A) → ◌≡◌ {A = Result A CrudErr} (Ok x) (Ok y) → x ≡ y
-ok_is x y e = cc
 
 -- Places.
 

@@ -1,5 +1,6 @@
 -- The filter of a document is the same from the document's own levels on, so that it is read as the filters in it are.
 use Rattle.std.proofs.Common.{◌≡◌, ℕ, zero, suc, ◌+◌, ◌-◌, ◌≤◌, List, [], ◌∷◌, map, Option, Some, None, Result, Ok, Err, refl, sym, ap, subst, ◌∙◌, arith, if◌then◌else◌}
+use Rattle.outcomes.specs.Bind.{◌>>=◌}
 use Rattle.bson_core.specs.declared.value.Value.{Value}
 use Rattle.bson_core.specs.declared.value.Value.TheOpen as of
 use Rattle.bson_core.specs.declared.value.Value.TheOpen.{Value-F}
@@ -13,7 +14,7 @@ use Rattle.txn_types.specs.declared.filter.Filter.TheViews.{And}
 use Rattle.crud_parse.specs.declared.error.CrudErr.{CrudErr}
 use Rattle.crud_parse.specs.declared.error.CrudErr.TheVariants.{WrongKind}
 use Rattle.crud_parse.specs.declared.operators.Junction.{Junction}
-use Rattle.crud_parse.specs.Results.{◌>>=◌, each, with_front}
+use Rattle.crud_parse.specs.Results.{each, with_front}
 use Rattle.crud_parse.specs.Operators.{junction_of, joined}
 use Rattle.crud_parse.specs.Filters.{Reader, are_documents, inner_by, filters_by, named_by, element_by, filter_by, filter_at, filter_of}
 

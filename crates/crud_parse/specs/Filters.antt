@@ -1,6 +1,7 @@
 -- The filter that a document is, after the query documents of the MongoDB manual: all of its elements hold.
 use Rattle.std.specs.Prelude.{ℕ, zero, suc, ◌==◌, ◌&&◌, Bool, true, false, not, List, [], length, Option, Some, None, Result, Ok, Err, if◌then◌else◌}
 use Rattle.std.specs.List.{list_all}
+use Rattle.outcomes.specs.Bind.{◌>>=◌}
 use Rattle.bson_core.specs.declared.value.Value.{Value}
 use Rattle.bson_core.specs.declared.value.Value.TheOpen as of
 use Rattle.bson_core.specs.declared.value.Value.TheOpen.{Value-F}
@@ -16,7 +17,7 @@ use Rattle.crud_parse.specs.declared.error.CrudErr.TheVariants.{UnknownOperator,
 use Rattle.crud_parse.specs.declared.operators.Junction.{Junction}
 use Rattle.crud_parse.specs.declared.operators.Operator.{Operator}
 use Rattle.crud_parse.specs.declared.operators.Operator.TheVariants as asks
-use Rattle.crud_parse.specs.Results.{◌>>=◌, each}
+use Rattle.crud_parse.specs.Results.{each}
 use Rattle.crud_parse.specs.Names.{begins_with_dollar, has_full_stop, begins_with_operator}
 use Rattle.crud_parse.specs.Operators.{junction_of, operator_of, joined}
 

@@ -1,13 +1,9 @@
 -- What reading gives: a result, or the first refusal in the order of the elements.
 use Rattle.std.specs.Prelude.{Bool, true, false, List, [], ◌∷◌, ◌++◌, Result, Ok, Err}
+use Rattle.outcomes.specs.Bind.{◌>>=◌}
 use Rattle.outcomes.specs.Outcome as outcome
 use Rattle.crud_parse.specs.declared.error.CrudErr.{CrudErr}
 use Rattle.crud_parse.specs.declared.error.CrudErr.TheVariants.{Memory}
-
-infixl 10 ◌>>=◌
-abbrev pub ◌>>=◌ : {A B : Type 0} → Result A CrudErr → (A → Result B CrudErr) → Result B CrudErr
-(Ok x) >>= f = f x
-(Err e) >>= f = Err e
 
 -- want of memory, which no function on lists answers
 abbrev pub is_memory : CrudErr → Bool

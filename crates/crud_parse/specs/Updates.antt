@@ -1,5 +1,6 @@
 -- The update that a value is, after the update documents of the MongoDB manual.
 use Rattle.std.specs.Prelude.{ℕ, Bool, true, false, List, [], ◌∷◌, Option, Some, None, Result, Ok, Err, if◌then◌else◌, codes}
+use Rattle.outcomes.specs.Bind.{◌>>=◌}
 use Rattle.bson_core.specs.declared.value.Value.{Value}
 use Rattle.bson_core.specs.declared.value.Value.TheVariants.{Null}
 use Rattle.bson_core.specs.declared.value.Value.TheOpen as of
@@ -12,7 +13,7 @@ use Rattle.txn_types.specs.declared.update.UpdateKind.TheVariants.{Set, Unset, I
 use Rattle.txn_types.specs.declared.update.UpdateOp.{UpdateOp}
 use Rattle.crud_parse.specs.declared.error.CrudErr.{CrudErr}
 use Rattle.crud_parse.specs.declared.error.CrudErr.TheVariants.{UnknownOperator, DottedName, WrongKind}
-use Rattle.crud_parse.specs.Results.{◌>>=◌, each, each_of}
+use Rattle.crud_parse.specs.Results.{each, each_of}
 use Rattle.crud_parse.specs.Names.{has_full_stop, begins_with_operator}
 use Rattle.crud_parse.specs.Operators.{kind_of}
 

@@ -1,11 +1,12 @@
 -- Reading parts one after the other, as a loop does: what is still read, after each turn.
 use Rattle.std.proofs.Common.{◌≡◌, ℕ, suc, ◌-◌, ◌+◌, ◌≤◌, ◌<◌, Bool, true, false, List, [], ◌∷◌, ◌++◌, Result, Ok, Err, refl, sym, ◌∙◌, arith}
 use Rattle.std.specs.Bool.{MatchBool}
+use Rattle.outcomes.specs.Bind.{◌>>=◌}
 use Rattle.outcomes.specs.Outcome.{Refuses}
 use Rattle.txn_types.specs.declared.write.Write.{Write}
 use Rattle.journal_rec.specs.declared.error.RecErr.{RecErr}
 use Rattle.journal_rec.specs.Errors.{is_memory}
-use Rattle.journal_rec.specs.Reading.{◌>>=◌, part_at, parts_at, next_write_at, each_write_at}
+use Rattle.journal_rec.specs.Reading.{part_at, parts_at, next_write_at, each_write_at}
 
 turns : (count i : ℕ) → i < count → count - i ≡ suc (count - (i + 1))
 turns count i lt = omega arith

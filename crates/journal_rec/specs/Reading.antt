@@ -5,6 +5,7 @@ use Rattle.std.specs.List.{position_or_len, before_first, after_first}
 use Rattle.std.specs.Int.{Width, w16, w32, w64, cast_signed}
 use Rattle.std.specs.Ordering.{is_lt}
 use Rattle.std.specs.Str.{is_utf8}
+use Rattle.outcomes.specs.Bind.{◌>>=◌}
 use Rattle.bson_core.specs.declared.error.BsonErr.{BsonErr}
 use Rattle.bson_core.specs.declared.value.Value.{Value}
 use Rattle.bson_core.specs.declared.value.Value.TheOpen as of
@@ -29,11 +30,6 @@ use Rattle.journal_rec.specs.declared.error.RecErr.TheVariants.{Kind, Short, Ext
 use Rattle.journal_rec.specs.declared.record.Decided.{Decided}
 use Rattle.journal_rec.specs.declared.record.Rec.{Rec}
 use Rattle.journal_rec.specs.declared.record.Rec.TheVariants as rec
-
-infixl 10 ◌>>=◌
-abbrev pub ◌>>=◌ : {A B : Type 0} → Result A RecErr → (A → Result B RecErr) → Result B RecErr
-(Ok x) >>= f = f x
-(Err e) >>= f = Err e
 
 -- a field and the bytes behind it, or the first fault
 abbrev pub Found : Type 0 → Type 0

@@ -4,6 +4,7 @@ use Rattle.std.specs.Int.{w16, w32, w64}
 use Rattle.std.specs.List.{All, flat_map}
 use Rattle.std.proofs.lemmas.Bool.{lt-ltb}
 use Rattle.std.proofs.lemmas.List.{take_at, drop_at}
+use Rattle.outcomes.proofs.Binding.{ok_is}
 use Rattle.bson_core.specs.declared.value.Value.TheViews as views
 use Rattle.txn_types.specs.declared.decision.Decision.{Decision}
 use Rattle.txn_types.specs.declared.cause.Cause.{Cause}
@@ -169,9 +170,6 @@ envelope_frame_again e h =
 pub batch_frame_again : (es : List Envelope) → ListFits BatchedFits es → batch_in (batch_frame es) ≡ Ok es
 unfolding batch_in
 batch_frame_again es h = rw (content_again 0 (batch_bytes es), batch_again es h) refl
-
-ok_is : {A : Type 0} (a b : A) → ◌≡◌ {A = Result A WireErr} (Ok a) (Ok b) → a ≡ b
-ok_is a b e = cc
 
 pub envelopes_apart : (a b : Envelope) → EnvelopeFits a → EnvelopeFits b → envelope_frame a ≡ envelope_frame b → a ≡ b
 envelopes_apart a b h k e = ok_is a b (sym (envelope_frame_again a h) ∙ ap envelope_in e ∙ envelope_frame_again b k)

@@ -6,12 +6,13 @@ use Rattle.std.specs.Int.{w16, w32, w64}
 use Rattle.std.specs.Ordering.{is_lt}
 use Rattle.std.specs.declared.cmp.Ordering.{Ordering}
 use Rattle.std.specs.declared.cmp.Ordering.TheVariants.{Less, Equal, Greater}
+use Rattle.outcomes.specs.Bind.{◌>>=◌}
 use Rattle.txn_types.specs.declared.write.Write.{Write}
 use Rattle.txn_semantics.specs.Keyed.{Rises}
 use Rattle.txn_semantics.specs.Writes.{place_of, place_cmp, placed}
 use Rattle.txn_semantics.proofs.Laying.{above_trans}
 use Rattle.txn_semantics.proofs.Places.{place_total, place_exact}
-use Rattle.journal_rec.specs.Reading.{◌>>=◌, Found, number_of, tag_at, named_at, decision_at, parts_at, zeros_at, byte_at, is_above, last_of, write_at, next_write_at, each_write_at, writes_at, boot_at, ceiling_at, committed_at, preparing_at, prepared_at, decided_at, coord_start_at, coord_decision_at, coord_end_at, floor_at, fields_at, if_whole, record_of}
+use Rattle.journal_rec.specs.Reading.{Found, number_of, tag_at, named_at, decision_at, parts_at, zeros_at, byte_at, is_above, last_of, write_at, next_write_at, each_write_at, writes_at, boot_at, ceiling_at, committed_at, preparing_at, prepared_at, decided_at, coord_start_at, coord_decision_at, coord_end_at, floor_at, fields_at, if_whole, record_of}
 use Rattle.journal_rec.specs.declared.error.RecErr.{RecErr}
 use Rattle.journal_rec.specs.declared.error.RecErr.TheVariants.{Kind}
 use Rattle.journal_rec.specs.declared.record.Rec.{Rec}

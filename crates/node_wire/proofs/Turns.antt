@@ -1,10 +1,11 @@
 -- Reading things one after the other, as a loop does: what is still read, after each turn.
 use Rattle.std.proofs.Common.{◌≡◌, ℕ, suc, ◌-◌, ◌+◌, ◌≤◌, ◌<◌, Bool, true, false, List, [], ◌∷◌, ◌++◌, Result, Ok, Err, refl, sym, ◌∙◌, arith}
 use Rattle.std.specs.Bool.{MatchBool}
+use Rattle.outcomes.specs.Bind.{◌>>=◌}
 use Rattle.outcomes.specs.Outcome.{Refuses}
 use Rattle.node_wire.specs.declared.error.WireErr.{WireErr}
 use Rattle.node_wire.specs.Errors.{is_memory}
-use Rattle.node_wire.specs.Reading.{◌>>=◌, Found, each_at}
+use Rattle.node_wire.specs.Reading.{Found, each_at}
 
 turns : (count i : ℕ) → i < count → count - i ≡ suc (count - (i + 1))
 turns count i lt = omega arith

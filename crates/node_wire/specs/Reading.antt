@@ -5,6 +5,7 @@ use Rattle.std.specs.Prelude.{ℕ, ℤ, pos, zero, suc, ◌+◌, ◌-◌, ◌==�
 use Rattle.std.specs.List.{position_or_len, before_first, after_first}
 use Rattle.std.specs.Int.{Width, w16, w32, w64, cast_signed}
 use Rattle.std.specs.Str.{is_utf8, bytes_eq}
+use Rattle.outcomes.specs.Bind.{◌>>=◌}
 use Rattle.bson_core.specs.declared.error.BsonErr.{BsonErr}
 use Rattle.bson_core.specs.declared.value.Bin.{Bin}
 use Rattle.bson_core.specs.declared.value.Value.{Value}
@@ -57,11 +58,6 @@ use Rattle.txn_types.specs.declared.update.UpdateOp.{UpdateOp}
 use Rattle.node_wire.specs.Errors.{from_document}
 use Rattle.node_wire.specs.declared.error.WireErr.{WireErr}
 use Rattle.node_wire.specs.declared.error.WireErr.TheVariants.{Field, NotInternal}
-
-infixl 10 ◌>>=◌
-abbrev pub ◌>>=◌ : {A B : Type 0} → Result A WireErr → (A → Result B WireErr) → Result B WireErr
-(Ok x) >>= f = f x
-(Err e) >>= f = Err e
 
 -- a field and the bytes behind it, or the first fault
 abbrev pub Found : Type 0 → Type 0

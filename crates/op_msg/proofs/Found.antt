@@ -4,6 +4,8 @@ use Rattle.std.specs.Prelude.{◌||◌}
 use Rattle.std.specs.Int.{w32}
 use Rattle.std.proofs.lemmas.Bool.{cases_lt, ltb-false, eqb-true}
 use Rattle.std.proofs.lemmas.List.{take-append-drop, length-append, length-take, length-drop, append-nil, take_at}
+use Rattle.outcomes.specs.Bind.{◌>>=◌}
+use Rattle.outcomes.proofs.Binding.{bind_ok, passed, ok_is}
 use Rattle.bson_core.specs.Fields.{Document}
 use Rattle.bson_core.specs.Names.{IsName}
 use Rattle.bson_core.specs.Grammar.{Reads}
@@ -16,8 +18,8 @@ use Rattle.op_msg.specs.declared.frame.FrameErr.TheVariants.{Section}
 use Rattle.op_msg.specs.Words.{word}
 use Rattle.op_msg.specs.Message.{Sequence, sequence_section, ReadsDocuments, ReadsSection, ReadsSections, bodies, sequences_of, has_flag, AreFlags, MayRead, Query, query_front, IsQuery}
 use Rattle.op_msg.specs.Message as grammar
-use Rattle.op_msg.specs.Reading.{◌>>=◌, number, extent, document_at, documents_at, name_at, sequence_at, Found, with_body, section_at, finish, sections_at, least_flag, known_by, without_sum, contents_at, at_end, second_at, query_at}
-use Rattle.op_msg.proofs.Steps.{bind_ok, passed, ok_is, no_fault, was_read, was_name}
+use Rattle.op_msg.specs.Reading.{number, extent, document_at, documents_at, name_at, sequence_at, Found, with_body, section_at, finish, sections_at, least_flag, known_by, without_sum, contents_at, at_end, second_at, query_at}
+use Rattle.op_msg.proofs.Steps.{no_fault, was_read, was_name}
 
 number_found : (bytes : List ℕ) (x : ℕ × List ℕ) → IsInput bytes → number bytes ≡ Ok x → Is32 bytes x
 number_found bytes x h e = number32 bytes x h (no_fault Section (number_at w32 bytes) x e)

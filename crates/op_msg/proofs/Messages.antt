@@ -6,6 +6,7 @@ use Rattle.std.proofs.lemmas.Int.{of_z-to_z, to_z-of_z}
 use Rattle.std.proofs.Math.Facts.{sfits_to_z, Fits-of_z}
 use Rattle.std.proofs.lemmas.Bool.{ltb-false, le-ltb, lt-ltb, eqb-true, eq-eqb}
 use Rattle.std.proofs.lemmas.List.{length-append}
+use Rattle.outcomes.proofs.Binding.{bind_ok, passed, ok_is}
 use Rattle.bson_core.specs.Fields.{Document}
 use Rattle.bson_core.specs.Reading.{number_at}
 use Rattle.bson_core.proofs.Sound.{IsInput, Is32, number32}
@@ -18,7 +19,7 @@ use Rattle.op_msg.specs.Words.{word}
 use Rattle.op_msg.specs.Errors.{Gives}
 use Rattle.op_msg.specs.Message.{Sequence, front, is_internal, IsWithinLimits, query_front, IsCurrent, IsOlder, IsMessage}
 use Rattle.op_msg.specs.Reading.{header_number, header_at, is_length, contents_at, query_at, contents_in, contents_within, is_older, frame_by, frame_of}
-use Rattle.op_msg.proofs.Steps.{bind_ok, passed, ok_is, no_fault}
+use Rattle.op_msg.proofs.Steps.{no_fault}
 use Rattle.op_msg.proofs.Fronts.{query_behind, query_begins}
 use Rattle.op_msg.proofs.Found.{contents_found, query_found}
 use Rattle.op_msg.proofs.Read.{contents_again, query_again}

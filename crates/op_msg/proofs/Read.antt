@@ -3,6 +3,8 @@ use Rattle.std.proofs.Common.{◌≡◌, ℕ, zero, suc, ◌-◌, ◌+◌, ◌^�
 use Rattle.std.specs.Int.{w32, to_le_bytes}
 use Rattle.std.proofs.lemmas.Bool.{le-ltb}
 use Rattle.std.proofs.lemmas.List.{length-append, append-nil, take_at, drop_at}
+use Rattle.outcomes.specs.Bind.{◌>>=◌}
+use Rattle.outcomes.proofs.Binding.{bound}
 use Rattle.bson_core.specs.Fields.{Document}
 use Rattle.bson_core.specs.Names.{IsName}
 use Rattle.bson_core.specs.Spelling.{framed}
@@ -14,8 +16,7 @@ use Rattle.bson_core.proofs.Whole.{whole_again}
 use Rattle.op_msg.specs.Words.{word}
 use Rattle.op_msg.specs.Message.{Sequence, sequence_section, ReadsDocuments, ReadsSection, ReadsSections, bodies, sequences_of, has_flag, AreFlags, MayRead, Query, query_front, IsQuery}
 use Rattle.op_msg.specs.Message as grammar
-use Rattle.op_msg.specs.Reading.{◌>>=◌, number, extent, document_at, documents_at, name_at, sequence_at, Found, section_at, finish, sections_at, least_flag, without_sum, contents_at, at_end, second_at, query_at}
-use Rattle.op_msg.proofs.Steps.{bound}
+use Rattle.op_msg.specs.Reading.{number, extent, document_at, documents_at, name_at, sequence_at, Found, section_at, finish, sections_at, least_flag, without_sum, contents_at, at_end, second_at, query_at}
 
 -- No document in a message is longer.
 abbrev most : ℕ

@@ -3,12 +3,13 @@ use Rattle.std.proofs.Common.{◌≡◌, ℕ, suc, ◌-◌, ◌+◌, ◌≤◌, 
 use Rattle.std.specs.Bool.{MatchBool}
 use Rattle.outcomes.specs.Outcome.{Refuses}
 use Rattle.std.proofs.lemmas.List.{nil_from_length}
+use Rattle.outcomes.specs.Bind.{◌>>=◌}
 use Rattle.bson_core.specs.Fields.{Document}
 use Rattle.op_msg.specs.declared.frame.FrameErr.{FrameErr}
 use Rattle.op_msg.specs.declared.frame.FrameErr.TheVariants.{Section}
 use Rattle.op_msg.specs.Errors.{is_memory}
 use Rattle.op_msg.specs.Message.{Sequence, has_flag}
-use Rattle.op_msg.specs.Reading.{◌>>=◌, Found, finish, document_at, documents_at, section_at, sections_at, least_flag}
+use Rattle.op_msg.specs.Reading.{Found, finish, document_at, documents_at, section_at, sections_at, least_flag}
 
 turns : (count i : ℕ) → i < count → count - i ≡ suc (count - (i + 1))
 turns count i lt = omega arith

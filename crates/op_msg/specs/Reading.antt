@@ -1,6 +1,7 @@
 -- Reading a message front to back, as functions on lists: the message, or its first fault.
 use Rattle.std.specs.Prelude.{ℕ, zero, suc, ◌+◌, ◌-◌, Bool, true, false, not, List, [], ◌∷◌, ◌++◌, length, take, drop, Option, Some, None, Result, Ok, Err, nat_lt, ◌==◌, ◌&&◌, ◌||◌, if◌then◌else◌}
 use Rattle.std.specs.Int.{w32, cast_signed}
+use Rattle.outcomes.specs.Bind.{◌>>=◌}
 use Rattle.bson_core.specs.declared.error.BsonErr.{BsonErr}
 use Rattle.bson_core.specs.Fields.{Document}
 use Rattle.bson_core.specs.Reading.{number_at, document_of}
@@ -11,11 +12,6 @@ use Rattle.op_msg.specs.declared.header.Header.{Header}
 use Rattle.op_msg.specs.declared.frame.Frame.{Frame}
 use Rattle.op_msg.specs.declared.frame.FrameErr.{FrameErr}
 use Rattle.op_msg.specs.declared.frame.FrameErr.TheVariants.{Length, OpCode, Flags, Section, NoBody, TwoBodies, TooLarge}
-
-infixl 10 ◌>>=◌
-abbrev pub ◌>>=◌ : {A B : Type 0} → Result A FrameErr → (A → Result B FrameErr) → Result B FrameErr
-(Ok x) >>= f = f x
-(Err e) >>= f = Err e
 
 -- what was found, or that fault
 abbrev pub or_fault : {A : Type 0} → FrameErr → Option A → Result A FrameErr

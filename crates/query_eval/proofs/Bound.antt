@@ -1,7 +1,7 @@
 -- One step after another: an error of the first is one of both, and what the second gives, both give.
 use Rattle.std.proofs.Common.{◌≡◌, Result, Ok, ap, subst}
+use Rattle.outcomes.specs.Bind.{◌>>=◌}
 use Rattle.txn_types.specs.declared.operation.What.{What}
-use Rattle.txn_semantics.specs.Updates.{◌>>=◌}
 use Rattle.query_eval.specs.declared.error.ApplyErr.{ApplyErr}
 use Rattle.query_eval.specs.declared.error.ApplyErr.TheVariants.{NotNumber, Overflow, Immutable, TooLarge, Memory}
 use Rattle.query_eval.specs.Refusals.{Tells}

@@ -4,6 +4,7 @@ use Rattle.std.specs.Prelude.{FitsSigned}
 use Rattle.std.specs.Int.{Width, w16, w32, w64, to_le_bytes}
 use Rattle.std.specs.List.{All}
 use Rattle.std.proofs.lemmas.List.{append-nil}
+use Rattle.outcomes.proofs.Binding.{ok_is}
 use Rattle.bson_core.specs.Reading.{number_at}
 use Rattle.txn_types.specs.declared.decision.Decision.{Decision}
 use Rattle.txn_types.specs.declared.names.Tag.{Tag}
@@ -135,9 +136,6 @@ record_again (rec.CoordStart tag lsid number parts) h = coord_start_again tag ls
 record_again (rec.CoordDecision tag decision) h = coord_decision_again tag decision h.0 h.1
 record_again (rec.CoordEnd tag) h = coord_end_again tag h
 record_again (rec.Floor floor) h = floor_again floor h
-
-ok_is : (a b : Rec) → ◌≡◌ {A = Result Rec RecErr} (Ok a) (Ok b) → a ≡ b
-ok_is a b e = cc
 
 pub told_apart : (a b : Rec) → RecordFits a → RecordFits b → record_bytes a ≡ record_bytes b → a ≡ b
 told_apart a b h k e = ok_is a b (sym (record_again a h) ∙ ap record_of e ∙ record_again b k)

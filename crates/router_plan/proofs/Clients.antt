@@ -1,6 +1,7 @@
 -- The sessions that a client's request names are those of clients.
 use Rattle.std.proofs.Common.{◌≡◌, ℕ, ℤ, Bool, true, false, List, Option, Some, None, Result, Ok, Err, refl, subst, if◌then◌else◌}
 use Rattle.std.specs.Prelude.{codes, option_map}
+use Rattle.outcomes.specs.Bind.{◌>>=◌}
 use Rattle.bson_core.specs.declared.value.Value.{Value}
 use Rattle.bson_core.specs.declared.value.Value.TheOpen as of
 use Rattle.bson_core.specs.declared.value.Value.TheOpen.{Value-F}
@@ -18,7 +19,7 @@ use Rattle.client_cmd.specs.declared.error.CmdErr.{CmdErr}
 use Rattle.client_cmd.specs.declared.error.CmdErr.TheVariants.{Unacknowledged, RetryWrite}
 use Rattle.client_cmd.specs.declared.request.Request.{Request}
 use Rattle.client_cmd.specs.declared.request.Request.TheVariants as request
-use Rattle.client_cmd.specs.Commands.{◌>>=◌, as_command, command_in, is_unacknowledged, is_retried, refused_where, not_ahead, time_ahead, session_by, starts_in, txn_by, txn_in, statement_txn, token_under, sessions_under, seen_time, at_time, after_time, request_by, request_of}
+use Rattle.client_cmd.specs.Commands.{as_command, command_in, is_unacknowledged, is_retried, refused_where, not_ahead, time_ahead, session_by, starts_in, txn_by, txn_in, statement_txn, token_under, sessions_under, seen_time, at_time, after_time, request_by, request_of}
 use Rattle.router_state.specs.State.{is_own}
 use Rattle.router_plan.specs.Messages.{asked_by, read_by, asked_in}
 use Rattle.router_plan.specs.Names.{NamesClient, IsClients}

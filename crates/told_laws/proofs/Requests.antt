@@ -2,6 +2,8 @@
 use Rattle.std.proofs.Common.{◌≡◌, ◌+◌, max, ℕ, Bool, true, false, All, List, [], ◌∷◌, ◌++◌, cond, Option, Some, None, is_some, Result, Ok, Err, refl, ap, subst, if◌then◌else◌}
 use Rattle.std.specs.Prelude.{slice_get}
 use Rattle.std.proofs.lemmas.List.Elements.{All-nil, All-cons, All-append}
+use Rattle.outcomes.specs.Bind.{◌>>=◌}
+use Rattle.outcomes.proofs.Binding.{bind_ok}
 use Rattle.bson_core.specs.Fields.{Document}
 use Rattle.op_msg.specs.Reading.{frame_of}
 use Rattle.op_msg.specs.declared.frame.Frame.{Frame}
@@ -17,7 +19,7 @@ use Rattle.txn_types.specs.declared.node.NodeId.TheVariants.{Shard, Router}
 use Rattle.txn_types.specs.declared.operation.InsertItem.{InsertItem}
 use Rattle.txn_types.specs.declared.operation.Op.{Op}
 use Rattle.txn_types.specs.declared.operation.Op.TheVariants as op
-use Rattle.crud_parse.specs.Results.{◌>>=◌, with_front}
+use Rattle.crud_parse.specs.Results.{with_front}
 use Rattle.crud_parse.specs.declared.error.CrudErr.{CrudErr}
 use Rattle.crud_parse.specs.declared.error.CrudErr.TheVariants.{Missing}
 use Rattle.command_parse.specs.Items.{each_at, insert_item, update_item, delete_item}
@@ -28,7 +30,6 @@ use Rattle.command_parse.specs.declared.command.Statement.{Statement}
 use Rattle.command_parse.specs.declared.command.Statement.TheVariants as statement
 use Rattle.command_parse.specs.declared.rules.Batch.TheVariants.{Documents, Changes}
 use Rattle.command_parse.specs.declared.rules.Change.TheVariants as change
-use Rattle.command_parse.proofs.Checked.{bind_ok}
 use Rattle.client_cmd.specs.Commands as cmd
 use Rattle.client_cmd.specs.declared.error.CmdErr.{CmdErr}
 use Rattle.client_cmd.specs.declared.request.Request.{Request}

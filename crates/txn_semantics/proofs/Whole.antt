@@ -4,6 +4,7 @@ use Rattle.std.specs.declared.cmp.Ordering.TheVariants.{Less, Equal, Greater}
 use Rattle.std.specs.Cmp.{IsTotalOrder, nat_cmp_is}
 use Rattle.std.specs.Ordering.{ordering_reverse, ordering_then, nat_cmp, is_lt}
 use Rattle.std.proofs.lemmas.Cmp.{then_total, on_total, nat_cmp_total}
+use Rattle.outcomes.proofs.Binding.{ok_is}
 use Rattle.txn_types.specs.declared.id.Id.{Id}
 use Rattle.txn_types.specs.declared.operation.Op.{Op}
 use Rattle.txn_types.specs.declared.operation.Op.TheVariants.{Insert, Find, Update, Delete}
@@ -199,9 +200,6 @@ filter_map_write p write h (row ∷ rows) = fmw_case p write row rows (p row.0) 
 abbrev ok_or : OpReply × List Write → Meaning → OpReply × List Write
 ok_or x (Ok y) = y
 ok_or x (Err e) = x
-
-ok_is : (x y : OpReply × List Write) → ◌≡◌ {A = Meaning} (Ok x) (Ok y) → x ≡ y
-ok_is x y h = ap (ok_or x) h
 
 writes_told : (place : Id → ℕ) (reply : Done → OpReply) (write : Row → Write) (whole : Doing) (parts : ℕ → Doing) → ((row : Row) → written_id (write row) ≡ row.0)
     → ((s : ℕ) → SplitsTo (here place s) whole (parts s)) → (m : OpReply × List Write) → meaning_of reply write whole ≡ Ok m → (s : ℕ) → AreWrites (here place s) m.1 (meaning_of reply write (parts s))

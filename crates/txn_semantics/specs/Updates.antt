@@ -3,6 +3,7 @@
 use Rattle.std.specs.Prelude.{ℕ, ℤ, pos, negsuc, ◌+ℤ◌, ◌&&◌, Bool, true, false, not, List, [], ◌∷◌, ◌++◌, length, filter, Option, Some, None, Result, Ok, Err, if◌then◌else◌, int_le, nat_le}
 use Rattle.std.specs.Str.{bytes_eq}
 use Rattle.std.specs.Ordering.{is_eq}
+use Rattle.outcomes.specs.Bind.{◌>>=◌}
 use Rattle.bson_core.specs.declared.value.Value.{Value}
 use Rattle.bson_core.specs.declared.value.Value.TheVariants.{Int, Long}
 use Rattle.bson_core.specs.declared.value.Value.TheOpen as of
@@ -19,11 +20,6 @@ use Rattle.txn_types.specs.declared.update.Update.TheVariants.{Replace, Ops}
 use Rattle.txn_types.specs.declared.update.UpdateKind.{UpdateKind}
 use Rattle.txn_types.specs.declared.update.UpdateKind.TheVariants.{Set, Unset, Inc}
 use Rattle.txn_types.specs.declared.update.UpdateOp.{UpdateOp}
-
-infixl 10 ◌>>=◌
-abbrev pub ◌>>=◌ : {A B : Type 0} → Result A What → (A → Result B What) → Result B What
-Ok a >>= f = f a
-Err e >>= f = Err e
 
 -- an int64 of that value, which has to fit
 abbrev pub long_of : ℤ → Result Value What

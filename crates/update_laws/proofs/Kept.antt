@@ -17,8 +17,10 @@ use Rattle.txn_types.specs.declared.update.Update.TheVariants.{Replace, Ops}
 use Rattle.txn_types.specs.declared.update.UpdateKind.{UpdateKind}
 use Rattle.txn_types.specs.declared.update.UpdateKind.TheVariants.{Set, Unset, Inc}
 use Rattle.txn_types.specs.declared.update.UpdateOp.{UpdateOp}
-use Rattle.txn_semantics.specs.Updates.{◌>>=◌, long_of, int_of, increased, without_name, applied, all_applied, is_same_value, with_old_id, id_fields, may_replace, within_limit, updated_by, apply}
+use Rattle.txn_semantics.specs.Updates.{long_of, int_of, increased, without_name, applied, all_applied, is_same_value, with_old_id, id_fields, may_replace, within_limit, updated_by, apply}
 use Rattle.std.proofs.Math.IntN.{+ℤ_idr}
+use Rattle.outcomes.specs.Bind.{◌>>=◌}
+use Rattle.outcomes.proofs.Binding.{ok_is}
 use Rattle.query_eval.proofs.Sums.{int_fits, long_fits}
 use Rattle.update_laws.specs.Others.{NoneNamed, fields_of}
 
@@ -70,9 +72,6 @@ unset_case kept name field fields false none is more = ap (λ (l : Document). co
 unset_leaves : (kept : List ℕ → Bool) (name : List ℕ) (doc : Document) → kept name ≡ false → fields_of kept (without_name name doc) ≡ fields_of kept doc
 unset_leaves kept name [] none = refl
 unset_leaves kept name (field ∷ fields) none = unset_case kept name field fields (bytes_eq field.0 name) none refl (unset_leaves kept name fields none)
-
-ok_is : (a b : Document) → ◌≡◌ {A = Result Document What} (Ok a) (Ok b) → a ≡ b
-ok_is a b is = cc
 
 one_leaves : (kept : List ℕ → Bool) (kind : UpdateKind) (name : List ℕ) (value : Value) (doc new : Document) → kept name ≡ false → applied kind name value doc ≡ Ok new → fields_of kept new ≡ fields_of kept doc
 one_leaves kept Set name value doc new none is = ap (fields_of kept) (sym (ok_is (with_value name value doc) new is)) ∙ set_leaves kept name value doc none
