@@ -1,4 +1,6 @@
 ghost use Rattle.std.specs.Prelude.{◌≡◌, ◌<◌, ◌^◌, ◌∷◌, [], ◌++◌, true, false, pos, None, Some, IfOk, OnOk, IsTrue, map, codes, string_bytes, if◌then◌else◌};
+ghost use Rattle.txn_types.specs.Limits.{most_batch, most_stored};
+ghost use Rattle.op_msg.specs.Limits.{most_message};
 ghost use Rattle.bson_core.specs.Names.{has_no_zero};
 ghost use Rattle.bson_core.specs.declared.value.Value.TheVariants as kinds;
 ghost use Rattle.bson_core.specs.declared.value.Value.TheViews as views;
@@ -155,7 +157,7 @@ fn put_kind_of_server(alloc: Global, fields: &mut Fields, old_name: bool) -> Res
 
 /// The manual's limits, which drivers read.
 fn put_limits(alloc: Global, fields: &mut Fields) -> Result<(), AllocError>
-    ensures { OnOk result (fields.new.items ≡ fields.old.items ++ (codes "maxBsonObjectSize", kinds.Int (pos 16777216)) ∷ (codes "maxMessageSizeBytes", kinds.Int (pos 48000000)) ∷ (codes "maxWriteBatchSize", kinds.Int (pos 100000)) ∷ []) }
+    ensures { OnOk result (fields.new.items ≡ fields.old.items ++ (codes "maxBsonObjectSize", kinds.Int (pos most_stored)) ∷ (codes "maxMessageSizeBytes", kinds.Int (pos most_message)) ∷ (codes "maxWriteBatchSize", kinds.Int (pos most_batch)) ∷ []) }
 {
     put_int(alloc, fields, "maxBsonObjectSize", 16_777_216)?;
     put_int(alloc, fields, "maxMessageSizeBytes", 48_000_000)?;

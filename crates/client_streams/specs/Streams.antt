@@ -2,6 +2,7 @@
 -- the one before it is answered; and bytes that can't be cut close the connection.
 use Rattle.std.specs.Prelude.{ℕ, Bool, false, List, [], ◌∷◌, ◌++◌, nat_eq, length, zero, suc, Option, Some, None, unwrap_or, Ok, Err, if◌then◌else◌}
 use Rattle.std.specs.List.{find}
+use Rattle.op_msg.specs.Limits.{most_message}
 use Rattle.op_msg.specs.Stream.{Next, next_of}
 use Rattle.op_msg.specs.declared.frame.FrameErr.{FrameErr}
 use Rattle.op_msg.specs.declared.frame.FrameErr.TheVariants as fault
@@ -38,7 +39,7 @@ cut_by again c (Err e) = record c { bytes = []; fault = Some (fault_number e) }
 
 abbrev pub cut_times : ℕ → Connection → Connection
 cut_times zero c = c
-cut_times (suc n) c = cut_by (cut_times n) c (next_of 48000000 c.bytes)
+cut_times (suc n) c = cut_by (cut_times n) c (next_of most_message c.bytes)
 
 -- bytes come on it; behind a fault they are dropped
 abbrev pub fed_by : Option ℕ → Connection → List ℕ → Connection

@@ -1,5 +1,6 @@
 //! A connection of a client: its bytes are cut into messages, and one message at a time is served.
 ghost use Rattle.std.specs.Prelude.{◌≡◌};
+ghost use Rattle.op_msg.specs.Limits.{most_message};
 ghost use Rattle.client_streams.specs.Streams.{fault_number};
 
 use bson_core::Bytes;
@@ -47,7 +48,7 @@ impl Model for Connection {
 
     ghost view = { λ c. record { conn = c.conn; bytes = c.feeder.held; waiting = c.waiting.items; busy = c.busy; fault = c.fault } };
 
-    ghost invariant = { λ c. c.feeder.limit ≡ 48000000 };
+    ghost invariant = { λ c. c.feeder.limit ≡ most_message };
 }
 
 impl Connection {
@@ -79,8 +80,8 @@ impl Connection {
 
     /// Cuts the next message off the bytes, where they hold all of it; a fault drops them. It tells whether one was cut off.
     fn cut_next(&mut self, alloc: Global) -> Result<bool, AllocError>
-        ensures cut { IfOk result (λ more. IsTrue more → (m : List ℕ × List ℕ) × (next_of 48000000 self.old.bytes ≡ Ok (Some m)) × (self.new ≡ record self.old { bytes = m.1; waiting = self.old.waiting ++ m.0 ∷ [] })) }
-        ensures last { IfOk result (λ more. (again : Connection → Connection) → more ≡ false → self.new ≡ cut_by again self.old (next_of 48000000 self.old.bytes)) }
+        ensures cut { IfOk result (λ more. IsTrue more → (m : List ℕ × List ℕ) × (next_of most_message self.old.bytes ≡ Ok (Some m)) × (self.new ≡ record self.old { bytes = m.1; waiting = self.old.waiting ++ m.0 ∷ [] })) }
+        ensures last { IfOk result (λ more. (again : Connection → Connection) → more ≡ false → self.new ≡ cut_by again self.old (next_of most_message self.old.bytes)) }
     {
         match self.feeder.next() {
             Ok(Some(message)) => {

@@ -2,6 +2,7 @@
 -- before the reply: one that told it, or that ended the transaction with it.
 use Rattle.std.specs.Prelude.{◌≡◌, ◌≢◌, ◌<◌, ◌≤◌, ◌⊎◌, ℕ, ℤ, ◌+◌, ◌-◌, ◌^◌, ◌<ℤ◌, Bool, true, false, List, [], ◌∷◌, ◌++◌, filter, filter_map, take, nat_eq, nat_lt, All, Contains, Option, Some, None, unwrap_or, option_map, slice_get, Err, if◌then◌else◌}
 use Rattle.std.specs.List.{list_any}
+use Rattle.txn_types.specs.Limits.{most_written}
 use Rattle.txn_types.specs.Causes.{cause_number}
 use Rattle.txn_types.specs.Order.{same_id, same_tag}
 use Rattle.txn_types.specs.declared.cause.By.TheVariants as by
@@ -294,7 +295,7 @@ Stood past m (cause.Replaced number other) =
     × ((m.number <ℤ number) ⊎ ((m.number ≡ number) × (other ≢ m.tag)))
 Stood past m (cause.Volume bytes) =
     (s : Statement) × IsDelivered m s × (bytes ≡ volume (write_set (unwrap_or (option_map (λ (o : Open). o.writes) (live_at m)) [] ++ writes_of (eval s.op (rows_there past m s)))))
-    × (100000000 < bytes)
+    × (most_written < bytes)
 Stood past m (cause.ClockEnd last) = ((core_at m).clock.last ≡ last) × (last ≡ 2 ^ 64 - 1)
 Stood past m (cause.PreparedStands other) =
     (s : Session) × (session (part_at m) m.lsid ≡ Some s) × (s.tag ≡ other) × ((at : ℕ) × (coordinator : ℕ) × (s.state ≡ state.Prepared at coordinator))

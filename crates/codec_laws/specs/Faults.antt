@@ -2,6 +2,7 @@
 -- of BSON 1.1 (bsonspec.org) and of the MongoDB wire protocol.
 use Rattle.std.specs.Prelude.{◌≡◌, ◌≢◌, ℕ, ◌≤◌, ◌<◌, ◌^◌, min, true, false, List, length, take, drop, slice_index, None}
 use Rattle.std.specs.Int.{w32, from_le_bytes}
+use Rattle.op_msg.specs.Limits.{most_internal, most_message}
 use Rattle.bson_core.specs.declared.error.BsonErr.{BsonErr}
 use Rattle.bson_core.specs.declared.error.BsonErr.TheVariants as document
 use Rattle.bson_core.specs.Kinds.{kind_of}
@@ -56,12 +57,12 @@ pub record IsLeastUnknown (bit : ℕ) (bytes : List ℕ) : Type 0 where
 -- a message that is read further: it has its length, which is at most 400,000,000
 pub record IsFramed (bytes : List ℕ) : Type 0 where
   pub whole : HasItsLength bytes
-  pub most : length bytes ≤ 400000000
+  pub most : length bytes ≤ most_internal
 
 -- what a message's fault says of the bytes. Those of the contents come behind the header's
 abbrev pub IsSaid : List ℕ → FrameErr → Type 0
 IsSaid bytes message.Length = HasItsLength bytes → ⊥
-IsSaid bytes message.TooLarge = HasItsLength bytes × (48000000 < length bytes)
+IsSaid bytes message.TooLarge = HasItsLength bytes × (most_message < length bytes)
 IsSaid bytes message.OpCode = IsFramed bytes × HasOtherCode bytes
 IsSaid bytes (message.Flags bit) = IsFramed bytes × IsLeastUnknown bit bytes
 IsSaid bytes message.Memory = ⊥

@@ -1,5 +1,6 @@
 //! A law is the contract of a function that changes nothing and gives nothing.
 ghost use Rattle.std.specs.Prelude.{◌≡◌, ◌↔◌, ◌<◌, List, ℕ, Err, length};
+ghost use Rattle.op_msg.specs.Limits.{most_internal};
 ghost use Rattle.bson_core.specs.declared.error.BsonErr.{BsonErr};
 ghost use Rattle.bson_core.specs.Reading.{document_of};
 ghost use Rattle.op_msg.specs.Reading.{frame_of};
@@ -29,7 +30,7 @@ pub fn the_first_fault_is_told(bytes: &[u8])
 pub fn faults_of_messages_are_said()
     ensures said { (bytes : List ℕ) (e : FrameErr) → frame_of bytes ≡ Err e → IsSaid bytes e }
     ensures length { (bytes : List ℕ) → ¬ HasItsLength bytes → frame_of bytes ≡ Err message.Length }
-    ensures too_large { (bytes : List ℕ) → HasItsLength bytes → 400000000 < length bytes → frame_of bytes ≡ Err message.TooLarge }
+    ensures too_large { (bytes : List ℕ) → HasItsLength bytes → most_internal < length bytes → frame_of bytes ≡ Err message.TooLarge }
     ensures op_code { (bytes : List ℕ) → IsFramed bytes → HasOtherCode bytes → frame_of bytes ≡ Err message.OpCode }
     ensures flags { (bit : ℕ) (bytes : List ℕ) → IsFramed bytes → IsLeastUnknown bit bytes → frame_of bytes ≡ Err (message.Flags bit) }
 {}

@@ -1,5 +1,6 @@
 -- The places of an operation's items in their list.
 use Rattle.std.specs.Prelude.{◌≡◌, ◌≤◌, ℕ, zero, suc, ◌+◌, List, [], ◌∷◌, map}
+use Rattle.txn_types.specs.Limits.{most_batch}
 use Rattle.txn_types.specs.declared.operation.Op.{Op}
 use Rattle.txn_types.specs.declared.operation.Op.TheVariants as op
 
@@ -17,5 +18,5 @@ counted first (suc n) = first ∷ counted (first + 1) n
 -- its items stand at 0, 1, 2 and so on, and they are at most 100,000, the manual's maxWriteBatchSize
 pub record HasPlaces (o : Op) : Type 0 where
   pub count : ℕ
-  pub most : count ≤ 100000
+  pub most : count ≤ most_batch
   pub places : places_of o ≡ counted 0 count

@@ -1,4 +1,5 @@
 ghost use Rattle.std.specs.Prelude.{◌≡◌, ◌≤◌, map, length, IfOk};
+ghost use Rattle.txn_types.specs.Limits.{most_batch};
 ghost use Rattle.bson_core.specs.declared.value.Value.TheViews.{out-Value};
 ghost use Rattle.crud_parse.specs.Results.{Gives, each};
 ghost use Rattle.command_parse.specs.Commands.{list_name};
@@ -42,7 +43,7 @@ fn of_batch_size<'a>(
     docs: Vec<&'a Doc>,
 ) -> Result<Vec<&'a Doc>, CrudErr>
     ensures docs { Gives (λ docs. map (λ doc. doc.now) docs.items) result (of_batch_size (list_name batch) (map (λ doc. doc.now) docs.entry.items)) }
-    ensures most { IfOk result (λ docs. length docs.items ≤ 100000) }
+    ensures most { IfOk result (λ docs. length docs.items ≤ most_batch) }
 {
     if docs.is_empty() || docs.len() > MAX_WRITE_BATCH_SIZE {
         return Err(CrudErr::WrongKind {
@@ -59,7 +60,7 @@ pub fn batch_in_value<'a>(
     value: &'a Value,
 ) -> Result<Vec<&'a Doc>, CrudErr>
     ensures docs { Gives (λ docs. map (λ doc. doc.now) docs.items) result (batch_in batch (InBody value.now)) }
-    ensures most { IfOk result (λ docs. length docs.items ≤ 100000) }
+    ensures most { IfOk result (λ docs. length docs.items ≤ most_batch) }
 {
     match value {
         Value::List(list) => {
@@ -79,7 +80,7 @@ pub fn batch_in_section<'a>(
     section: &'a [Doc],
 ) -> Result<Vec<&'a Doc>, CrudErr>
     ensures docs { Gives (λ docs. map (λ doc. doc.now) docs.items) result (batch_in batch (InSection section.now)) }
-    ensures most { IfOk result (λ docs. length docs.items ≤ 100000) }
+    ensures most { IfOk result (λ docs. length docs.items ≤ most_batch) }
 {
     let mut docs = Vec::new(alloc);
     for doc in section {

@@ -1,4 +1,5 @@
 ghost use Rattle.std.specs.Prelude.{◌≡◌, ◌≤◌, map, length, IfOk, IsSome};
+ghost use Rattle.txn_types.specs.Limits.{most_batch};
 ghost use Rattle.bson_core.specs.declared.value.Value.TheViews.{out-Value};
 ghost use Rattle.txn_types.specs.Ids.{id_in};
 ghost use Rattle.crud_parse.specs.Results.{Gives};
@@ -95,7 +96,7 @@ fn delete_item(alloc: Global, index: u32, item: &Doc) -> Result<DeleteItem, Crud
 
 /// The documents to insert, each with its place.
 pub fn insert_items(alloc: Global, docs: &[&Doc]) -> Result<InsertItems, CrudErr>
-    requires { length docs.now ≤ 100000 }
+    requires { length docs.now ≤ most_batch }
     ensures { Gives (λ items. items) result (each_at insert_item 0 (map (λ doc. doc.now) docs.now)) }
 {
     let mut items = InsertItems::new(alloc);
@@ -107,7 +108,7 @@ pub fn insert_items(alloc: Global, docs: &[&Doc]) -> Result<InsertItems, CrudErr
 
 /// The updates, each with its place.
 pub fn update_items(alloc: Global, docs: &[&Doc]) -> Result<UpdateItems, CrudErr>
-    requires { length docs.now ≤ 100000 }
+    requires { length docs.now ≤ most_batch }
     ensures { Gives (λ items. items) result (each_at update_item 0 (map (λ doc. doc.now) docs.now)) }
 {
     let mut items = Vec::new(alloc);
@@ -119,7 +120,7 @@ pub fn update_items(alloc: Global, docs: &[&Doc]) -> Result<UpdateItems, CrudErr
 
 /// The deletions, each with its place.
 pub fn delete_items(alloc: Global, docs: &[&Doc]) -> Result<DeleteItems, CrudErr>
-    requires { length docs.now ≤ 100000 }
+    requires { length docs.now ≤ most_batch }
     ensures { Gives (λ items. items) result (each_at delete_item 0 (map (λ doc. doc.now) docs.now)) }
 {
     let mut items = Vec::new(alloc);

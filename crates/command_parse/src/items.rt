@@ -1,5 +1,6 @@
 ghost use Rattle.std.specs.Prelude.{◌≡◌, ◌≤◌, map, length, nat_le};
 ghost use Rattle.std.specs.Option.{option_copied};
+ghost use Rattle.txn_types.specs.Limits.{most_stored};
 ghost use Rattle.bson_core.specs.declared.value.Value.TheViews.{out-Value};
 ghost use Rattle.bson_core.specs.Fields.{value_of};
 ghost use Rattle.bson_core.specs.Spelling.{spelling};
@@ -37,7 +38,7 @@ fn check_id(alloc: Global, id: Option<&Value>) -> Result<Option<Name>, CrudErr>
 
 /// Whether the document is short enough to be stored.
 fn can_be_stored(doc: &Doc) -> bool
-    ensures { result ≡ nat_le (length (spelling doc.now)) 16777216 }
+    ensures { result ≡ nat_le (length (spelling doc.now)) most_stored }
 {
     size(doc) <= MOST_STORED
 }

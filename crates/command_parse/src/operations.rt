@@ -1,4 +1,5 @@
 ghost use Rattle.std.specs.Prelude.{◌≡◌, ◌≤◌, map, length, IfOk};
+ghost use Rattle.txn_types.specs.Limits.{most_batch};
 ghost use Rattle.crud_parse.specs.Results.{Gives};
 ghost use Rattle.command_parse.specs.Operations.{text_under, namespace_in, batch_under, filter_under, falls_under, limit_under, find_of, built, op_of};
 
@@ -51,7 +52,7 @@ fn namespace_in(alloc: Global, statement: Statement, body: &Doc) -> Result<Ns, C
 /// The documents of the batch, from its field or its section.
 fn batch_under<'a>(alloc: Global, batch: Batch, frame: &'a Frame) -> Result<Vec<&'a Doc>, CrudErr>
     ensures docs { Gives (λ docs. map (λ doc. doc.now) docs.items) result (batch_under batch frame.now) }
-    ensures most { IfOk result (λ docs. length docs.items ≤ 100000) }
+    ensures most { IfOk result (λ docs. length docs.items ≤ most_batch) }
 {
     let section = match get(&frame.body, batch.as_str()) {
         Some(value) => return batch_in_value(alloc, batch, value),

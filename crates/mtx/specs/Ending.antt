@@ -1,5 +1,6 @@
 -- What each status of `play` says of the schedule, and of what was written.
 use Rattle.std.specs.Prelude.{◌≡◌, ℕ, ◌-◌, List}
+use Rattle.play_script.specs.Limits.{most_lines}
 use Rattle.mtx.specs.declared.status.Status.{Status}
 use Rattle.mtx.specs.declared.status.Status.TheVariants as status
 use Rattle.mtx.specs.Play.{IsPlayable, FirstBadLine, IsOverrun, Played, AnsweredFirst, CutShort}
@@ -34,7 +35,7 @@ IsInterrupted (status.BadJournal disk index) = ⊥
 abbrev pub Wrote : List ℕ → List ℕ → List ℕ → Status → Type 0
 Wrote input before after status.Ok = Played input before after
 Wrote input before after (status.BadLine line) = AnsweredFirst (line - 1) input before after
-Wrote input before after status.Budget = AnsweredFirst 10000000 input before after
+Wrote input before after status.Budget = AnsweredFirst most_lines input before after
 Wrote input before after status.WriteFault = CutShort input before after
 Wrote input before after status.Memory = CutShort input before after
 Wrote input before after status.ReadFault = after ≡ before

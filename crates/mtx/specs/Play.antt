@@ -1,6 +1,7 @@
 -- What `play` does: it answers the lines of a schedule in their order, and its answers are those of one list of
 -- commits.
 use Rattle.std.specs.Prelude.{◌≡◌, ℕ, ◌+◌, ◌≤◌, ◌<◌, ◌⊎◌, List, [], ◌∷◌, ◌++◌, length, take, Some, slice_get}
+use Rattle.play_script.specs.Limits.{most_lines}
 use Rattle.single_node.specs.Right.{AnswersRight}
 use Rattle.play_script.specs.Lines.{lines_of, Asked, Asks, IsBad}
 use Rattle.play_run.specs.Serving.{DeskState, first_state, served_all, answers}
@@ -25,13 +26,13 @@ RightThroughout asked = (n : ℕ) → n ≤ length asked → AnswersRight (behin
 pub record IsPlayable (input : List ℕ) : Type 0 where
   pub asked : List Asked
   pub lines : AllAsk (lines_of input) asked
-  pub few : length (lines_of input) ≤ 10000000
+  pub few : length (lines_of input) ≤ most_lines
 
 -- the first line that asks nothing is this one, counted from 1, and it would be played
 pub record FirstBadLine (number : ℕ) (input : List ℕ) : Type 0 where
   pub asked : List Asked
   pub place : number ≡ length asked + 1
-  pub within : number ≤ 10000000
+  pub within : number ≤ most_lines
   pub lines : AllAsk (take (length asked) (lines_of input)) asked
   pub line : List ℕ
   pub there : slice_get (lines_of input) (length asked) ≡ Some line
@@ -40,8 +41,8 @@ pub record FirstBadLine (number : ℕ) (input : List ℕ) : Type 0 where
 -- there are more lines than are played, and each that is played asks something
 pub record IsOverrun (input : List ℕ) : Type 0 where
   pub asked : List Asked
-  pub lines : AllAsk (take 10000000 (lines_of input)) asked
-  pub many : 10000000 < length (lines_of input)
+  pub lines : AllAsk (take most_lines (lines_of input)) asked
+  pub many : most_lines < length (lines_of input)
 
 -- the text of all lines' replies and then of the list of commits was written, and no more
 pub record Played (input before after : List ℕ) : Type 0 where

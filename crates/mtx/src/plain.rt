@@ -1,5 +1,6 @@
 //! A schedule whose lines are all of clients, over one node.
 ghost use Rattle.std.specs.Prelude.{◌≡◌, ◌≤◌, ◌⊎◌, ℕ, List, Option, length, OnOk, OnErr, IfOk};
+ghost use Rattle.play_script.specs.Limits.{most_lines};
 ghost use Rattle.outcomes.specs.Causes.{Rose, FailsOnly};
 ghost use Rattle.outcomes.specs.Told.{Told};
 ghost use Rattle.outside_core.specs.Bytes.{Went, WentInPart};
@@ -70,7 +71,7 @@ struct Behind {
 
 /// Plays the lines in their order, and writes what they are answered.
 fn play_lines<K: Sink>(alloc: Global, input: &[u8], out: &mut K) -> Result<Behind, Stop>
-    requires { length (lines_of input.now) ≤ 10000000 }
+    requires { length (lines_of input.now) ≤ most_lines }
     ensures ok { IfOk result (λ b. PlayedAll input.now b.lines b.desk (K.held out.old) (K.held out.new)) }
     ensures bad { (n : ℕ) → result ≡ Err (Stop.BadLine n) → PlayedUpTo n input.now (K.held out.old) (K.held out.new) }
     ensures part { OnErr result (PlayedInPart input.now (K.held out.old) (K.held out.new)) }
@@ -103,7 +104,7 @@ fn write_dump<K: Sink>(alloc: Global, entries: &[Entry], out: &mut K) -> Result<
 
 /// Plays the lines that were read of a schedule. Where more follows that can't be served, it is at fault behind them.
 pub fn play_plain<K: Sink>(alloc: Global, bytes: &[u8], end: End, out: &mut K) -> Status
-    requires few { length (lines_of bytes.now) ≤ 10000000 }
+    requires few { length (lines_of bytes.now) ≤ most_lines }
     ensures judged { (left : Option (List ℕ)) → Told left (λ input. IsInput input bytes.now end) → Told left (λ input. Judges input result ⊎ IsInterrupted result) }
     ensures text { (left : Option (List ℕ)) → Told left (λ input. IsInput input bytes.now end) → Told left (λ input. Told (K.held out.old) (λ before. Told (K.held out.new) (λ after. Wrote input before after result))) }
     ensures whole { result ≡ Status.Ok → end ≡ End.Whole }

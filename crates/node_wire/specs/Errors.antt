@@ -1,5 +1,6 @@
 -- What a reader of node messages gives, and what a writer does.
 use Rattle.std.specs.Prelude.{◌≡◌, ◌<◌, ◌≤◌, ℕ, Bool, true, false, List, ◌++◌, length, Result, Ok, Err}
+use Rattle.op_msg.specs.Limits.{most_internal}
 use Rattle.outcomes.specs.Outcome as outcome
 use Rattle.bson_core.specs.declared.error.BsonErr.{BsonErr}
 use Rattle.bson_core.specs.declared.error.BsonErr.TheVariants as document
@@ -24,7 +25,7 @@ Gives view result defined = outcome.Gives is_memory view result defined
 
 -- no message has more bytes
 abbrev pub most : ℕ
-most = 400000000
+most = most_internal
 
 -- what is made of node messages: this frame, whose message isn't too long; or it would be, or memory ran out
 abbrev pub Makes : Frame → Result Frame WireErr → Type 0

@@ -5,6 +5,7 @@ use Rattle.std.specs.Prelude.{ℕ, ℤ, pos, zero, suc, ◌+◌, ◌-◌, ◌==�
 use Rattle.std.specs.List.{position_or_len, before_first, after_first}
 use Rattle.std.specs.Int.{Width, w16, w32, w64, cast_signed}
 use Rattle.std.specs.Str.{is_utf8, bytes_eq}
+use Rattle.op_msg.specs.Limits.{most_internal}
 use Rattle.outcomes.specs.Bind.{◌>>=◌}
 use Rattle.bson_core.specs.declared.error.BsonErr.{BsonErr}
 use Rattle.bson_core.specs.declared.value.Bin.{Bin}
@@ -146,7 +147,7 @@ unfoldable pub document_at : ℕ → List ℕ → Found Document
 document_at end bytes = do
   n ← number_of w32 end bytes
   if nat_lt (length bytes) n.0 then Err (Field (place end bytes)) else
-      (as_field (place end bytes) (document_of 400000000 (take n.0 bytes)) >>= λ doc. Ok (doc, drop n.0 bytes))
+      (as_field (place end bytes) (document_of most_internal (take n.0 bytes)) >>= λ doc. Ok (doc, drop n.0 bytes))
 
 -- the value of a document that has one field, of this name
 abbrev pub only_under : List ℕ → Document → Option Value

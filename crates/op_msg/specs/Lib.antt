@@ -5,3 +5,4 @@ pub mod Errors
 pub mod Reading
 pub mod Asking
 pub mod Stream
+pub mod Limits

@@ -12,6 +12,7 @@ use Rattle.std.proofs.Common.{inl, inr}
 use Rattle.std.specs.List.{flat_map}
 use Rattle.std.specs.Int.{w32, cast_unsigned}
 use Rattle.std.specs.Str.{bytes_eq}
+use Rattle.op_msg.specs.Limits.{most_internal, most_message}
 use Rattle.bson_core.specs.declared.value.Value.{Value}
 use Rattle.bson_core.specs.declared.value.Value.TheOpen as of
 use Rattle.bson_core.specs.declared.value.Value.TheOpen.{Value-F}
@@ -103,8 +104,8 @@ is_internal body = elim (value_of (codes "$db") body) [ None ↦ false | Some db
 
 -- 48,000,000 bytes, and 400,000,000 between nodes
 pub record IsWithinLimits (len : ℕ) (body : Document) : Type 0 where
-  pub most : len ≤ 400000000
-  pub client : (len ≤ 48000000) ⊎ IsTrue (is_internal body)
+  pub most : len ≤ most_internal
+  pub client : (len ≤ most_message) ⊎ IsTrue (is_internal body)
 
 -- Flags 2 to 15 must be understood, and none of them is. Flag 0 says that a checksum follows, flag 1 is moreToCome; the
 -- others may be passed over.

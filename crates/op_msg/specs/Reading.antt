@@ -1,6 +1,7 @@
 -- Reading a message front to back, as functions on lists: the message, or its first fault.
 use Rattle.std.specs.Prelude.{ℕ, zero, suc, ◌+◌, ◌-◌, Bool, true, false, not, List, [], ◌∷◌, ◌++◌, length, take, drop, Option, Some, None, Result, Ok, Err, nat_lt, ◌==◌, ◌&&◌, ◌||◌, if◌then◌else◌}
 use Rattle.std.specs.Int.{w32, cast_signed}
+use Rattle.op_msg.specs.Limits.{most_internal, most_message}
 use Rattle.outcomes.specs.Bind.{◌>>=◌}
 use Rattle.bson_core.specs.declared.error.BsonErr.{BsonErr}
 use Rattle.bson_core.specs.Fields.{Document}
@@ -36,7 +37,7 @@ as_message (Err e) = Err (from_document e)
 
 -- a document and the bytes behind it
 unfoldable pub document_at : List ℕ → Result (Document × List ℕ) FrameErr
-document_at bytes = as_message (document_of 400000000 (take (extent bytes) bytes)) >>= λ doc. Ok (doc, drop (extent bytes) bytes)
+document_at bytes = as_message (document_of most_internal (take (extent bytes) bytes)) >>= λ doc. Ok (doc, drop (extent bytes) bytes)
 
 -- documents behind those in front, to the end of the bytes: fewer than so many
 unfoldable pub documents_at : ℕ → List Document → List ℕ → Result (List Document) FrameErr
@@ -154,7 +155,7 @@ header_at bytes = do
 abbrev pub contents_within : Bool → ℕ → List ℕ → Result (Bool × Document × List Sequence) FrameErr
 contents_within legacy len bytes = do
   contents ← contents_in legacy bytes
-  if nat_lt 48000000 len && not (is_internal contents.1) then Err TooLarge else Ok contents
+  if nat_lt most_message len && not (is_internal contents.1) then Err TooLarge else Ok contents
 
 abbrev pub frame_by : Header → Bool → Bool × Document × List Sequence → Frame
 frame_by header legacy contents = record {
@@ -175,5 +176,5 @@ unfoldable pub frame_of : List ℕ → Result Frame FrameErr
 frame_of bytes = do
   header ← header_at bytes
   if not (is_length header.0.len (length bytes)) then Err Length else
-      (if nat_lt 400000000 (length bytes) then Err TooLarge else
+      (if nat_lt most_internal (length bytes) then Err TooLarge else
       (is_older header.0.op_code >>= λ legacy. contents_within legacy (length bytes) header.1 >>= λ contents. Ok (frame_by header.0 legacy contents)))

@@ -1,5 +1,6 @@
 -- What a schedule's lines do: the bytes that come on a connection are cut into messages, and each is served in its turn.
 use Rattle.std.specs.Prelude.{ℕ, zero, suc, Bool, true, false, List, [], ◌∷◌, ◌++◌, length, Some, None, Ok, Err, nat_eq, if◌then◌else◌}
+use Rattle.op_msg.specs.Limits.{most_message}
 use Rattle.op_msg.specs.Stream.{Next, next_of}
 use Rattle.op_msg.specs.declared.frame.FrameErr.{FrameErr}
 use Rattle.op_msg.specs.declared.frame.FrameErr.TheVariants as fault
@@ -45,7 +46,7 @@ turn_by connection s held (Err e) = record { text = closed_line connection (numb
 
 -- a message of a client has at most 48,000,000 bytes
 unfoldable pub turn : ℕ → State → List ℕ → Turn
-turn connection s held = turn_by connection s held (next_of 48000000 held)
+turn connection s held = turn_by connection s held (next_of most_message held)
 
 -- a turn, and what the turns behind it do
 abbrev pub and_then : Turn → Turn → Turn

@@ -1,5 +1,6 @@
 -- What the server and a connection's feeder are behind a turn.
 use Rattle.std.specs.Prelude.{◌≡◌, ℕ, Bool, List, ◌++◌, Option, Some, None}
+use Rattle.op_msg.specs.Limits.{most_message}
 use Rattle.op_msg.specs.Stream.{Stream}
 use Rattle.op_msg.specs.declared.frame.FrameErr.{FrameErr}
 use Rattle.op_msg.specs.declared.frame.FrameErr.TheVariants as fault
@@ -17,7 +18,7 @@ pub record Turned (t : Turn) (server : Server) (feeder : Stream) (before after :
   pub text : after ≡ before ++ t.text
   pub state : StandsAt server t.server
   pub held : feeder.held ≡ t.held
-  pub limit : feeder.limit ≡ 48000000
+  pub limit : feeder.limit ≡ most_message
   pub more : goes_on ≡ t.more
 
 -- all turns' text was written
@@ -25,4 +26,4 @@ pub record Served (t : Turn) (server : Server) (feeder : Stream) (written : List
   pub text : written ≡ t.text
   pub state : StandsAt server t.server
   pub held : feeder.held ≡ t.held
-  pub limit : feeder.limit ≡ 48000000
+  pub limit : feeder.limit ≡ most_message

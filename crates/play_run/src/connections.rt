@@ -1,4 +1,5 @@
 ghost use Rattle.std.specs.Prelude.{◌≡◌};
+ghost use Rattle.op_msg.specs.Limits.{most_message};
 ghost use Rattle.play_run.specs.Holding.{fresh_stream};
 
 use indexmap::IndexMap;
@@ -37,7 +38,7 @@ impl Connections {
     /// Takes a connection's feeder out, and leaves an empty one.
     pub fn take(&mut self, alloc: Global, connection: u32) -> Result<Feeder, AllocError>
         requires { AreLimited self.old }
-        ensures feeder { IfOk result (λ f. f ≡ record { held = held_on self.old connection; limit = 48000000 }) }
+        ensures feeder { IfOk result (λ f. f ≡ record { held = held_on self.old connection; limit = most_message }) }
         ensures others { OnOk result ((c : ℕ) → held_on self.new c ≡ (if nat_eq connection c then [] else held_on self.old c)) }
         ensures limited { OnOk result (AreLimited self.new) }
     {
@@ -50,7 +51,7 @@ impl Connections {
     /// Puts a connection's feeder in its place.
     pub fn put(&mut self, connection: u32, feeder: Feeder) -> Result<(), AllocError>
         requires limited { AreLimited self.old }
-        requires limit { feeder.limit ≡ 48000000 }
+        requires limit { feeder.limit ≡ most_message }
         ensures held { OnOk result ((c : ℕ) → held_on self.new c ≡ (if nat_eq connection c then feeder.held else held_on self.old c)) }
         ensures limited { OnOk result (AreLimited self.new) }
     {

@@ -1,4 +1,5 @@
 ghost use Rattle.std.specs.Prelude.{◌≡◌, ◌++◌, IfOk, OnOk};
+ghost use Rattle.op_msg.specs.Limits.{most_message};
 ghost use Rattle.single_node.specs.Messages.{behind, answer_of};
 ghost use Rattle.single_node.specs.Standing.{state_of, IsSound};
 ghost use Rattle.play_run.specs.Text.{closed_line};
@@ -54,7 +55,7 @@ fn serve_message(
     out: &mut Vec<u8>,
 ) -> Result<bool, AllocError>
     requires sound { IsSound server.old }
-    requires limit { feeder.old.limit ≡ 48000000 }
+    requires limit { feeder.old.limit ≡ most_message }
     ensures turn { IfOk result (λ more. Turned (answered connection (behind (state_of server.old) message.now) feeder.old.held (answer_of connection (state_of server.old) message.now)) server.new feeder.new out.old.items out.new.items more) }
     ensures sound { OnOk result (IsSound server.new) }
 {
@@ -81,7 +82,7 @@ fn serve_next(
     out: &mut Vec<u8>,
 ) -> Result<bool, AllocError>
     requires sound { IsSound server.old }
-    requires limit { feeder.old.limit ≡ 48000000 }
+    requires limit { feeder.old.limit ≡ most_message }
     ensures turn { IfOk result (λ more. Turned (turn connection (state_of server.old) feeder.old.held) server.new feeder.new out.old.items out.new.items more) }
     ensures sound { OnOk result (IsSound server.new) }
 {
@@ -152,7 +153,7 @@ fn serve_held(
     feeder: &mut Feeder,
 ) -> Result<Vec<u8>, AllocError>
     requires sound { IsSound server.old }
-    requires limit { feeder.old.limit ≡ 48000000 }
+    requires limit { feeder.old.limit ≡ most_message }
     ensures served { IfOk result (λ t. Served (all_turns connection (state_of server.old) feeder.old.held) server.new feeder.new t.items) }
     ensures sound { OnOk result (IsSound server.new) }
 {

@@ -2,3 +2,4 @@ pub mod Lines
 pub mod Input
 pub mod Counting
 pub mod Words
+pub mod Limits

@@ -2,6 +2,7 @@
 use Rattle.std.specs.Prelude.{◌≡◌, ◌≤◌, ℕ, ◌+◌, ◌-◌, ◌*◌, ◌==◌, ◌&&◌, ◌||◌, Bool, not, true, false, List, [], ◌∷◌, length, fold, nat_le, Option, Some, None, Result, Ok, Err, codes, if◌then◌else◌}
 use Rattle.std.specs.List.{list_all, slice_split}
 use Rattle.std.specs.Str.{bytes_eq}
+use Rattle.play_script.specs.Limits.{most_line}
 use Rattle.outcomes.specs.Outcome as outcome
 use Rattle.hex.specs.Hex.{decode_of}
 use Rattle.hex.specs.declared.error.FromHexError.{FromHexError}
@@ -127,7 +128,7 @@ words_ask other = Err Form
 
 -- what a line asks, or why it is refused; one of more than 100,000,000 bytes has no form
 unfoldable pub read_of : List ℕ → Result Line LineErr
-read_of bytes = if nat_le (length bytes) 100000000 then words_ask (slice_split (λ b. b == 32) bytes) else Err Form
+read_of bytes = if nat_le (length bytes) most_line then words_ask (slice_split (λ b. b == 32) bytes) else Err Form
 
 abbrev pub asked_by : Result Line LineErr → Option Line
 asked_by (Ok asked) = Some asked
@@ -146,7 +147,7 @@ pub record Asked : Type 0 where
 -- the line brings these bytes on this connection
 pub record Asks (bytes : List ℕ) (a : Asked) : Type 0 where
   pub form : line_of bytes ≡ Some (line.Client a.connection a.bytes)
-  pub short : length bytes ≤ 100000000
+  pub short : length bytes ≤ most_line
 
 -- the line asks nothing that is played
 abbrev pub IsBad : List ℕ → Type 0

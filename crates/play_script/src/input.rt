@@ -1,4 +1,5 @@
 ghost use Rattle.std.specs.Prelude.{◌≡◌, ◌≢◌, ◌≤◌, length, take, IfOk, MatchOption};
+ghost use Rattle.play_script.specs.Limits.{most_lines};
 ghost use Rattle.outcomes.specs.Causes.{FailsOnly};
 ghost use Rattle.outcomes.specs.Told.{Told};
 ghost use Rattle.play_script.specs.Lines.{lines_of};
@@ -73,7 +74,7 @@ pub fn read_input<S: Source>(alloc: Global, src: &mut S) -> Result<Input, Source
     ensures faults { FailsOnly SourceErr.Failed (S.fault_count src.old) (S.fault_count src.new) result }
     ensures read { IfOk result (λ i. Told (S.left src.old) (λ input. IsInput input i.bytes.items i.end)) }
     ensures at_end { IfOk result (λ i. Told (S.left src.old) (λ input. IsAtEnd (S.left src.new) i.end)) }
-    ensures few { IfOk result (λ i. length (lines_of i.bytes.items) ≤ 10000000) }
+    ensures few { IfOk result (λ i. length (lines_of i.bytes.items) ≤ most_lines) }
     ensures short { IfOk result (λ i. AreShort i.bytes.items) }
 {
     let mut bytes = Vec::new(alloc);

@@ -1,6 +1,7 @@
 -- What a line of a schedule does, and what comes next of a schedule.
 use Rattle.std.specs.Prelude.{ℕ, ◌+◌, Bool, true, false, not, List, [], ◌∷◌, ◌++◌, map, filter, nat_eq, nat_lt, nat_le, Option, Some, None, if◌then◌else◌}
 use Rattle.std.specs.List.{range_with_len}
+use Rattle.play_script.specs.Limits.{most_lines}
 use Rattle.txn_types.specs.declared.event.Happening.TheVariants as what
 use Rattle.txn_types.specs.declared.node.NodeId.{NodeId}
 use Rattle.txn_types.specs.declared.node.NodeId.TheVariants.{Shard, Router}
@@ -93,7 +94,7 @@ did_next p (Some did) lines = written did.0 (or_lines (ready did.1) lines)
 abbrev pub from_lines : List ℕ → List (List ℕ) → Player → Next
 from_lines dump [] p = (dump, End, record p { lines = [] })
 from_lines dump (l ∷ lines) p =
-    if nat_le 10000000 p.taken then ([], Spent, p)
+    if nat_le most_lines p.taken then ([], Spent, p)
     else did_next (at_line p lines) (done_if dump (at_line p lines) (line_of l)) (from_lines dump lines)
 
 unfoldable pub next : List ℕ → Player → Next

@@ -1,5 +1,6 @@
 ghost use Rattle.std.specs.Prelude.{◌≡◌, ◌≤◌, length, map, IfOk, IfSome};
 ghost use Rattle.std.specs.Option.{option_copied};
+ghost use Rattle.txn_types.specs.Limits.{most_found};
 ghost use Rattle.bson_core.specs.Spelling.{spelling};
 ghost use Rattle.txn_semantics.specs.Found.{found, first_of, ordered, cut_marks};
 ghost use Rattle.txn_semantics.specs.Meaning.{rows_of, words};
@@ -18,7 +19,7 @@ const ROOM: u64 = 16_000_000;
 
 /// The document, where there is one and it fits.
 fn fitting<'r>(held: &'r Held<'_>, room: u64) -> Option<&'r Doc>
-    requires { room ≤ 16000000 }
+    requires { room ≤ most_found }
     ensures doc { option_copied result ≡ fitting_in room held.now }
     ensures fits { IfSome result (λ d. length (spelling d.now) ≤ room) }
 {
@@ -28,7 +29,7 @@ fn fitting<'r>(held: &'r Held<'_>, room: u64) -> Option<&'r Doc>
 
 /// The documents from the front that fit, and the id of the next.
 fn cut(alloc: Global, marks: &[(Id, Held<'_>)]) -> Result<OpReply, AllocError>
-    ensures { IfOk result (λ r. r ≡ rows_of (cut_marks words 16000000 (map mark_of marks.now))) }
+    ensures { IfOk result (λ r. r ≡ rows_of (cut_marks words most_found (map mark_of marks.now))) }
 {
     let mut docs = Vec::new(alloc);
     let mut room = ROOM;
@@ -75,7 +76,7 @@ pub fn told(
     down: bool,
     limit: u64,
 ) -> Result<OpReply, AllocError>
-    ensures { IfOk result (λ r. r ≡ rows_of (cut_marks words 16000000 (first_of limit (ordered down (map mark_of marks.entry.items))))) }
+    ensures { IfOk result (λ r. r ≡ rows_of (cut_marks words most_found (first_of limit (ordered down (map mark_of marks.entry.items))))) }
 {
     let marks = first_of(ordered(marks, down), limit);
     cut(alloc, &marks)
@@ -107,7 +108,7 @@ pub fn find(
     limit: u64,
     rows: &[(Id, Held<'_>)],
 ) -> Result<OpReply, AllocError>
-    ensures { IfOk result (λ r. r ≡ rows_of (found words 16000000 filter.now down limit (rows_in rows.now))) }
+    ensures { IfOk result (λ r. r ≡ rows_of (found words most_found filter.now down limit (rows_in rows.now))) }
 {
     let marks = matching(alloc, filter, rows)?;
     told(alloc, marks, down, limit)

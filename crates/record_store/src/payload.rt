@@ -1,5 +1,6 @@
 //! The bytes of a record that is to be appended.
 ghost use Rattle.std.specs.Prelude.{◌≡◌, ◌≢◌, ◌⊎◌, ◌≤◌, ◌++◌, [], true, false, length, take, drop, IfOk};
+ghost use Rattle.txn_types.specs.Limits.{most_written};
 ghost use Rattle.journal_rec.specs.Spelling.{record_bytes, front_bytes, body_bytes, parts_bytes};
 ghost use Rattle.journal_rec.specs.Volume.{volume, writes_bytes};
 
@@ -65,7 +66,7 @@ impl Payload {
 
     /// Writes are carried.
     pub fn of_writes(alloc: Global, writes: &[Write]) -> Result<Payload, AllocError>
-        requires { volume writes.now ≤ 100000000 }
+        requires { volume writes.now ≤ most_written }
         ensures { IfOk result (λ p. drop 64 p ≡ writes_bytes writes.now) }
     {
         let mut bytes = room(alloc)?;

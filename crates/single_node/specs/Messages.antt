@@ -3,6 +3,7 @@
 use Rattle.std.specs.Prelude.{ℕ, Bool, true, false, List, [], ◌∷◌, length, Option, Some, None, Result, Ok, Err, codes, nat_lt, if◌then◌else◌}
 use Rattle.std.specs.List.{list_any}
 use Rattle.std.specs.Str.{bytes_eq}
+use Rattle.op_msg.specs.Limits.{most_internal}
 use Rattle.outcomes.specs.Outcome as outcome
 use Rattle.bson_core.specs.Fields.{Document}
 use Rattle.bson_core.specs.declared.error.BsonErr.TheVariants as document
@@ -109,7 +110,7 @@ asks bytes = read_by (frame_of bytes)
 
 -- a reply goes out where one is wanted, and where it fits into a message; else it closes the connection as too large
 abbrev pub sent : List ℕ → Answer
-sent bytes = if nat_lt 400000000 (length bytes) then answer.Closed 8 else answer.Reply bytes
+sent bytes = if nat_lt most_internal (length bytes) then answer.Closed 8 else answer.Reply bytes
 
 abbrev pub told : List ℕ → Reply → ℕ → Answer
 told bytes reply time = if wants_reply bytes then sent (message (reply_frame reply (request_id bytes) (is_legacy bytes) time)) else answer.Silent

@@ -1,6 +1,7 @@
 -- What a statement means: its reply and its writes over one list of rows, rising by id; or its refusal.
 use Rattle.std.specs.Prelude.{ℕ, ◌-◌, ◌^◌, List, [], Result, Ok, Err, map, length, min}
 use Rattle.std.specs.Str.{bytes_eq}
+use Rattle.txn_types.specs.Limits.{most_found}
 use Rattle.bson_core.specs.Spelling.{spelling}
 use Rattle.txn_types.specs.Ids.{id_in}
 use Rattle.txn_types.specs.declared.operation.Op.{Op}
@@ -48,7 +49,7 @@ rows_of found = Rows found.0 found.1
 -- the documents of a find have at most 16,000,000 bytes
 abbrev pub eval_by : Words → Op → List Row → Meaning
 eval_by w (Insert ns items) rows = meaning_of count_met (put_of ns) (through (insert_step w) laid_over items rows)
-eval_by w (Find ns wanted down limit) rows = Ok (rows_of (found w 16000000 wanted down limit rows), [])
+eval_by w (Find ns wanted down limit) rows = Ok (rows_of (found w most_found wanted down limit rows), [])
 eval_by w (Update ns items) rows = meaning_of count_both (put_of ns) (through (update_step w) laid_over items rows)
 eval_by w (Delete ns items) rows = meaning_of count_met (removed_of ns) (through (delete_step w) without items rows)
 

@@ -1,5 +1,6 @@
 -- What is told of the replies of several shards to one statement.
 use Rattle.std.specs.Prelude.{ℕ, ◌+◌, List, [], ◌∷◌, map, None}
+use Rattle.txn_types.specs.Limits.{most_found}
 use Rattle.txn_types.specs.declared.operation.Op.{Op}
 use Rattle.txn_types.specs.declared.operation.Op.TheVariants.{Insert, Find, Update, Delete}
 use Rattle.txn_types.specs.declared.operation.OpReply.{OpReply}
@@ -30,7 +31,7 @@ merge_counts parts = Count (capped_sum (map n_of parts)) (capped_sum (map modifi
 
 abbrev pub merge_by : Words → Op → List OpReply → OpReply
 merge_by w (Insert ns items) parts = merge_counts parts
-merge_by w (Find ns wanted down limit) parts = rows_of (merged w 16000000 down limit (map found_of parts))
+merge_by w (Find ns wanted down limit) parts = rows_of (merged w most_found down limit (map found_of parts))
 merge_by w (Update ns items) parts = merge_counts parts
 merge_by w (Delete ns items) parts = merge_counts parts
 

@@ -3,6 +3,7 @@
 use Rattle.std.specs.Prelude.{ℕ, ℤ, pos, negsuc, ◌+ℤ◌, ◌&&◌, Bool, true, false, not, List, [], ◌∷◌, ◌++◌, length, filter, Option, Some, None, Result, Ok, Err, if◌then◌else◌, int_le, nat_le}
 use Rattle.std.specs.Str.{bytes_eq}
 use Rattle.std.specs.Ordering.{is_eq}
+use Rattle.txn_types.specs.Limits.{most_stored}
 use Rattle.outcomes.specs.Bind.{◌>>=◌}
 use Rattle.bson_core.specs.declared.value.Value.{Value}
 use Rattle.bson_core.specs.declared.value.Value.TheVariants.{Int, Long}
@@ -92,7 +93,7 @@ replaced new doc =
 
 -- a document that can be stored
 abbrev pub within_limit : Document → Result Document What
-within_limit doc = if nat_le (length (spelling doc)) 16777216 then Ok doc else Err TooLarge
+within_limit doc = if nat_le (length (spelling doc)) most_stored then Ok doc else Err TooLarge
 
 abbrev pub updated_by : Update → Document → Result Document What
 updated_by (Replace new) doc = replaced new doc
