@@ -64,7 +64,7 @@ use Rattle.shard_core.specs.Wanting.{wanting, Wanting, told_if, told_memory, may
 use Rattle.shard_core.specs.Core.{Room, Ample, Scarce, Short, CoreStep, core_step, step_if, stepped}
 use Rattle.shard_core.specs.Core.{stays, entered, happened, scarce, running_step, stopped_step}
 use Rattle.shard_core.specs.Core.{answer_stopped, says_stopped, gives_out, answer_of}
-use Rattle.cluster_core.specs.Naming.{given_out}
+use Rattle.txn_types.specs.Letters.{given_out}
 use Rattle.address_laws.specs.Addresses.{PartsThere, NamesThere, LetterThere, EnvThere, EventThere}
 use Rattle.address_laws.specs.Addresses.{CoordinatedThere, PlansThere, BeginsThere}
 use Rattle.address_laws.proofs.Lists.{one, each_of, put_all, taken_all, found, numbers_put}

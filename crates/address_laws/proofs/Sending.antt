@@ -76,7 +76,7 @@ use Rattle.router_state.specs.declared.state.Seeking.{Seeking}
 use Rattle.router_state.specs.declared.state.Session.{Session}
 use Rattle.router_state.specs.declared.state.Transaction.{Transaction}
 use Rattle.participant.proofs.Cases.{either}
-use Rattle.cluster_core.specs.Naming.{given_out}
+use Rattle.txn_types.specs.Letters.{given_out}
 use Rattle.address_laws.specs.Addresses.{ShardsThere, PartsThere, NamesThere, LetterThere, EnvThere}
 use Rattle.address_laws.specs.Addresses.{EventThere, PostThere, PostsThere, PhaseThere}
 use Rattle.address_laws.specs.Addresses.{TransactionThere, DoingThere, MapThere, SessionsThere}

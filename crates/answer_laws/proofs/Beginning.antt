@@ -54,7 +54,7 @@ use Rattle.router_core.specs.Requests as rq
 use Rattle.router_core.specs.Step as sp
 use Rattle.shard_image.proofs.Sessions.{entry_there}
 use Rattle.participant.proofs.Cases.{either}
-use Rattle.cluster_core.specs.Naming.{given_out}
+use Rattle.txn_types.specs.Letters.{given_out}
 use Rattle.txn_types.specs.declared.message.Statement.{Statement}
 use Rattle.answer_laws.proofs.Fits.{PostFits, AllFit, DoingFits, EntryFits, RouterFits, GoesOn, DeedFits, AllGo, MoveFits, AskFits, AskedFits, Unless, HappenedFits, EventFits, Asks, NoStatement}
 use Rattle.answer_laws.specs.Parts.{SentTo, SentFit}

@@ -27,7 +27,7 @@ use Rattle.router_plan.specs.Refusals.{begun_in}
 use Rattle.router_core.specs.Requests.{next_tag, statement}
 use Rattle.router_core.specs.Step.{asker_by}
 use Rattle.answer_laws.specs.Parts.{MsgFits}
-use Rattle.cluster_core.specs.Naming.{Named}
+use Rattle.txn_types.specs.Letters.{Named}
 
 abbrev pub PostFits : (ℕ → Statement → Type 0) → Post → Type 0
 PostFits Q post = MsgFits Q post.0 post.1

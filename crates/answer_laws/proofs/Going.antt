@@ -14,7 +14,7 @@ use Rattle.router_state.specs.declared.state.Session.{Session}
 use Rattle.router_state.specs.Deeds.{done_in, each_session, in_each_session}
 use Rattle.router_state.specs.State.{RouterState, session_of}
 use Rattle.shard_image.proofs.Sessions.{own_lsid, lsid_is}
-use Rattle.cluster_core.specs.Naming.{Named}
+use Rattle.txn_types.specs.Letters.{Named}
 use Rattle.answer_laws.proofs.Fits.{PostFits, DoingFits, EntryFits, RouterFits, GivenFit, SameDoing, GoesOn, DeedFits, AllGo, MoveFits, IsIn, HasCome}
 use Rattle.answer_laws.proofs.Deeds.{both_name}
 use Rattle.answer_laws.proofs.Lists.{entries_put}

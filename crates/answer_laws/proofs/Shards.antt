@@ -42,7 +42,7 @@ use Rattle.shard_core.specs.Rules.{ruled, from_router, router_of}
 use Rattle.shard_core.specs.Wanting.{wanting, Wanting, told_if, told_memory, may_be_told}
 use Rattle.shard_core.specs.Core.{Room, Ample, Scarce, Short, CoreStep, core_step, step_if, stepped, stays, entered, happened, scarce, running_step, stopped_step, answer_stopped, says_stopped, gives_out, answer_of}
 use Rattle.shard_core.specs.NodeStep.{NodeState, ShardTakes}
-use Rattle.cluster_core.specs.Naming.{given_out}
+use Rattle.txn_types.specs.Letters.{given_out}
 use Rattle.answer_laws.proofs.Lists.{one, each}
 
 -- no statement

@@ -25,7 +25,7 @@ use Rattle.txn_semantics.specs.Splits.{outcome}
 use Rattle.txn_semantics.specs.declared.commits.Answered.{Answered}
 use Rattle.client_cmd.specs.declared.request.Request.TheVariants as request
 use Rattle.router_state.specs.State.{RouterState}
-use Rattle.cluster_core.specs.Naming.{given_out}
+use Rattle.txn_types.specs.Letters.{given_out}
 use Rattle.cluster_core.specs.Routers.{Asked, request_at}
 
 -- a statement that was sent and isn't answered: its router and connection, its transaction and place there, the client's

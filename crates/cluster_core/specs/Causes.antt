@@ -55,7 +55,7 @@ use Rattle.router_state.specs.State.{RouterState}
 use Rattle.txn_model.specs.declared.ran.Ran.{Ran}
 use Rattle.txn_model.specs.declared.ran.Ran.TheVariants.{Step, Swapped}
 use Rattle.cluster_core.specs.Nodes.{Nodes, commits_of, journals_of}
-use Rattle.cluster_core.specs.Naming.{given_out}
+use Rattle.txn_types.specs.Letters.{given_out}
 use Rattle.cluster_core.specs.Trace.{At}
 use Rattle.cluster_core.specs.Answering.{Unanswered}
 use Rattle.cluster_core.specs.Replying.{tag_in, txn_of}

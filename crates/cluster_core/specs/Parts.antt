@@ -22,7 +22,7 @@ use Rattle.participant.specs.declared.said.Open.{Open}
 use Rattle.shard_core.specs.NodeStep.{NodeState}
 use Rattle.router_state.specs.State.{RouterState}
 use Rattle.txn_model.specs.Commits.{records_of}
-use Rattle.cluster_core.specs.Naming.{Named, named_in}
+use Rattle.txn_types.specs.Letters.{Named, named_in}
 use Rattle.cluster_core.specs.Nodes.{Nodes, journals_of}
 
 -- a fact of the shard of that number

@@ -7,7 +7,7 @@ use Rattle.router_state.specs.State.{RouterState}
 use Rattle.txn_model.specs.Commits.{commits}
 use Rattle.txn_model.specs.declared.ran.Ran.{Ran}
 use Rattle.cluster_core.specs.Nodes.{Nodes, commits_of}
-use Rattle.cluster_core.specs.Naming.{given_out}
+use Rattle.txn_types.specs.Letters.{given_out}
 use Rattle.cluster_core.specs.Trace.{MayCome, RouterStarts, ShardStarts}
 use Rattle.router_core.specs.Step.{RouterTakes}
 use Rattle.shard_core.specs.Laws.{HasTimes}

@@ -1,6 +1,6 @@
 //! Messages that a node gave out.
 ghost use Rattle.std.specs.Prelude.{◌≡◌, ◌++◌, OnOk};
-ghost use Rattle.cluster_core.specs.Naming.{given_out};
+ghost use Rattle.txn_types.specs.Letters.{given_out};
 
 use std::alloc::{AllocError, Global};
 use txn_types::{Envelope, NodeAnswer};

@@ -3,7 +3,7 @@ ghost use Rattle.std.specs.Prelude.{◌≡◌, ◌<◌, ◌++◌, ◌∷◌, [],
 ghost use Rattle.txn_types.specs.declared.node.NodeId.TheVariants as node;
 ghost use Rattle.txn_model.specs.Commits.{commits};
 ghost use Rattle.txn_model.specs.declared.ran.Ran.TheVariants as ran;
-ghost use Rattle.cluster_core.specs.Naming.{given_out};
+ghost use Rattle.txn_types.specs.Letters.{given_out};
 ghost use Rattle.cluster_core.specs.Nodes.{commits_of};
 ghost use Rattle.cluster_core.specs.Trace.{Happens, MayCome};
 ghost use Rattle.cluster_world.specs.World.{records_in, world_of, HasNode, MayHappen, event_of, AsMany, AsManyUnlessNext, TakesAt, Took, Stepped, ShardRenews, RouterRenews};

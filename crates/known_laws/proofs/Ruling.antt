@@ -62,7 +62,7 @@ use Rattle.shard_core.specs.Wanting.{wanting, Wanting, told_if, told_memory, may
 use Rattle.shard_core.specs.Core.{Room, Ample, Scarce, Short, CoreStep, core_step, step_if, stepped}
 use Rattle.shard_core.specs.Core.{stays, entered, happened, scarce, running_step, stopped_step}
 use Rattle.shard_core.specs.Core.{answer_stopped, says_stopped, gives_out, answer_of}
-use Rattle.cluster_core.specs.Naming.{Named, given_out, named_in}
+use Rattle.txn_types.specs.Letters.{Named, given_out, named_in}
 use Rattle.known_laws.specs.Known.{PartNamed, RecNamed, PartsKnown, AskedKnown, KnownTo}
 use Rattle.known_laws.specs.Known.{LetterKnown, EnvKnown, EventKnown, PlanKnown, PlansKnown}
 use Rattle.known_laws.specs.Known.{BeginsKnown, Answered}

@@ -82,13 +82,13 @@ use Rattle.router_state.specs.declared.state.Seeking.{Seeking}
 use Rattle.router_state.specs.declared.state.Session.{Session}
 use Rattle.router_state.specs.declared.state.Transaction.{Transaction}
 use Rattle.participant.proofs.Cases.{either}
-use Rattle.cluster_core.specs.Naming.{given_out}
+use Rattle.txn_types.specs.Letters.{given_out}
 use Rattle.std.specs.List.{list_any}
 use Rattle.std.specs.Option.{option_or}
 use Rattle.std.specs.declared.cmp.Ordering.{Ordering}
 use Rattle.std.specs.declared.cmp.Ordering.TheVariants.{Less, Equal, Greater}
 use Rattle.participant.proofs.Tags.{tag_same}
-use Rattle.cluster_core.specs.Naming.{Named}
+use Rattle.txn_types.specs.Letters.{Named}
 use Rattle.world_laws.specs.Begins.{EntryNames, DoingNames, RouterNames}
 use Rattle.known_laws.specs.Known.{PartsKnown, ToldKnown, EnvKnown, LetterKnown, PostKnown}
 use Rattle.known_laws.specs.Known.{PostsKnown, AreTaken, has_refusal, PhaseKnown, TransactionKnown}

@@ -53,7 +53,7 @@ use Rattle.participant.proofs.Cases.{either}
 use Rattle.participant.proofs.Ends.{entry_elsewhere}
 use Rattle.participant.proofs.Moving.{entry_here}
 use Rattle.participant.proofs.Tags.{lsid_same, tag_same}
-use Rattle.cluster_core.specs.Naming.{Named}
+use Rattle.txn_types.specs.Letters.{Named}
 use Rattle.known_laws.specs.Known.{PartNamed, SessionNamed}
 
 -- An entry stands under its session.

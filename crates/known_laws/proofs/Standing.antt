@@ -42,7 +42,7 @@ use Rattle.shard_core.specs.NodeStep.{NodeState, ShardTakes, Appended, Failed, b
 use Rattle.shard_core.specs.NodeStep.{node_of}
 use Rattle.txn_model.specs.declared.ran.Ran.{Ran}
 use Rattle.txn_model.specs.declared.ran.Ran.TheVariants.{Step, Swapped}
-use Rattle.cluster_core.specs.Naming.{Named, given_out, named_in}
+use Rattle.txn_types.specs.Letters.{Named, given_out, named_in}
 use Rattle.cluster_core.specs.Nodes.{Nodes}
 use Rattle.cluster_core.specs.Parts.{HasCome, KnowsBoot, KnowsBoots, KnowsAsked, KnowsTold}
 use Rattle.cluster_core.specs.Parts.{BootsKnown, names_of, TagsBegunOnce}
@@ -50,7 +50,7 @@ use Rattle.cluster_core.specs.Trace.{Happens, IsTrace, IsFresh, MayCome, MayRema
 use Rattle.world_laws.specs.Begins.{BegunOnce, PostNames, DoingNames, EntryNames, RouterNames}
 use Rattle.world_laws.specs.Boots.{IsNoBoot, BootStands, HasBooted, BootsTo, EnvBoots, ToldBoots}
 use Rattle.world_laws.specs.Clocks.{EachShard}
-use Rattle.world_laws.specs.Effect.{plan_name}
+use Rattle.shard_core.specs.Effect.{plan_name}
 use Rattle.world_laws.specs.Joint.{Stands, NoName, DisksStand}
 use Rattle.world_laws.specs.Tags.{BeginsNamed}
 use Rattle.world_laws.proofs.Clocks.{started_is, each_set, each_same}

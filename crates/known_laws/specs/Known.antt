@@ -29,11 +29,11 @@ use Rattle.router_state.specs.declared.state.Phase.TheVariants.{Idle, Asking, Ch
 use Rattle.router_state.specs.declared.state.Phase.TheVariants.{Committed, Released, Aborted}
 use Rattle.router_state.specs.declared.state.Transaction.{Transaction}
 use Rattle.router_rules.specs.Statements.{cause_in}
-use Rattle.cluster_core.specs.Naming.{Named}
+use Rattle.txn_types.specs.Letters.{Named}
 use Rattle.cluster_core.specs.Nodes.{Nodes}
 use Rattle.cluster_core.specs.Parts.{names_of, KnowsBoot}
 use Rattle.world_laws.specs.Clocks.{EachShard}
-use Rattle.world_laws.specs.Effect.{plan_name}
+use Rattle.shard_core.specs.Effect.{plan_name}
 use Rattle.world_laws.specs.Joint.{NoName}
 
 -- What a shard's sessions and records name. `P` says of a name that it stands.

@@ -50,7 +50,7 @@ use Rattle.shard_core.specs.Wanting.{wanting, Wanting, told_if, told_memory, may
 use Rattle.shard_core.specs.Core.{Room, Ample, Scarce, Short, CoreStep, core_step, step_if, stepped}
 use Rattle.shard_core.specs.Core.{stays, entered, happened, scarce, running_step, stopped_step}
 use Rattle.shard_core.specs.Core.{answer_of}
-use Rattle.cluster_core.specs.Naming.{given_out}
+use Rattle.txn_types.specs.Letters.{given_out}
 use Rattle.live_laws.proofs.Opens.{AllLive, Keeps, TurnKeeps, same, aborted_keeps, statement_keeps}
 use Rattle.live_laws.proofs.Opens.{expire_keeps, memory_keeps, abort_keeps, recover_keeps}
 use Rattle.live_laws.proofs.Opens.{decide_keeps, commit_keeps, prepare_keeps}

@@ -30,7 +30,7 @@ use Rattle.shard_core.specs.Core.{CoreStep, core_step}
 use Rattle.shard_core.specs.NodeStep.{NodeState, ShardTakes, Appended, Failed, boot_behind, started}
 use Rattle.txn_model.specs.declared.ran.Ran.{Ran}
 use Rattle.txn_model.specs.declared.ran.Ran.TheVariants.{Step, Swapped}
-use Rattle.cluster_core.specs.Naming.{given_out}
+use Rattle.txn_types.specs.Letters.{given_out}
 use Rattle.cluster_core.specs.Nodes.{Nodes}
 use Rattle.cluster_core.specs.Parts.{KnowsBoots, KnowsAsked, KnowsTold}
 use Rattle.cluster_core.specs.Trace.{Happens, IsTrace, IsFresh, MayCome}

@@ -14,7 +14,7 @@ use Rattle.participant.proofs.Tags.{tag_same}
 use Rattle.part_laws.specs.Each.{Each}
 use Rattle.part_laws.specs.Sound.{Served, is_of_life, written, HasNone}
 use Rattle.shard_core.specs.State.{ShardState}
-use Rattle.cluster_core.specs.Naming.{Named}
+use Rattle.txn_types.specs.Letters.{Named}
 use Rattle.serving_laws.specs.Coming.{MayBegin, IsNew}
 use Rattle.one_shard_laws.specs.Sessions.{IsHeld, IsOnce}
 use Rattle.one_shard_laws.specs.Lasting.{Runs}

@@ -40,8 +40,8 @@ use Rattle.shard_core.specs.Laws.{KeepsTime}
 use Rattle.shard_core.specs.NodeStep.{ceiling_append, record_append, appends_of, joined}
 use Rattle.durable_laws.proofs.Facts.{image_append, one_of_each}
 use Rattle.durable_laws.proofs.Stepping.{step_is_backed}
-use Rattle.cluster_core.specs.Naming.{Named, named_in, given_out}
-use Rattle.world_laws.specs.Effect.{NamesBy}
+use Rattle.txn_types.specs.Letters.{Named, named_in, given_out}
+use Rattle.shard_core.specs.Effect.{NamesBy}
 use Rattle.serving_laws.specs.Coming.{MsgComes, EventComes}
 use Rattle.serving_laws.specs.Left.{CoordinatesOnly, NoneButCoord, LeftBy, Left, StepServes}
 use Rattle.serving_laws.specs.Telling.{Tells, AnswersTo, RefusedThere, ToldThere}

@@ -16,7 +16,7 @@ use Rattle.part_laws.proofs.Judged.{served_are_right, first_commits}
 use Rattle.shard_core.specs.NodeStep.{NodeState}
 use Rattle.txn_model.specs.Commits.{Journals, commits}
 use Rattle.txn_model.specs.Decisions.{AllGreatest, DecisionsGreatest, AbortsNone, NowhereAborted}
-use Rattle.cluster_core.specs.Naming.{Named}
+use Rattle.txn_types.specs.Letters.{Named}
 use Rattle.cluster_core.specs.Nodes.{Nodes, journals_of, commits_of}
 use Rattle.one_shard_laws.specs.Alone.{RecAlone}
 use Rattle.one_shard_laws.specs.Lasting.{WasNamed, commits_by, Lasts, OneShard}

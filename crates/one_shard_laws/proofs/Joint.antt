@@ -26,7 +26,7 @@ use Rattle.router_state.specs.State.{RouterState}
 use Rattle.router_core.specs.Step.{RouterTakes}
 use Rattle.txn_model.specs.declared.ran.Ran.{Ran}
 use Rattle.txn_model.specs.declared.ran.Ran.TheVariants.{Step, Swapped}
-use Rattle.cluster_core.specs.Naming.{given_out}
+use Rattle.txn_types.specs.Letters.{given_out}
 use Rattle.cluster_core.specs.Nodes.{Nodes}
 use Rattle.cluster_core.specs.Trace.{MayCome, ShardSteps, ShardStarts, Happens, IsTrace, IsFresh}
 use Rattle.cluster_core.specs.Trace.{again}

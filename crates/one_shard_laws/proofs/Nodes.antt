@@ -36,7 +36,7 @@ use Rattle.durable_laws.specs.Backed.{lost_state}
 use Rattle.durable_laws.proofs.Beginning.{start_backed, start_finds}
 use Rattle.durable_laws.proofs.Nodes.{written_front}
 use Rattle.durable_laws.proofs.Stepping.{fault_is_backed}
-use Rattle.cluster_core.specs.Naming.{Named, named_in, given_out}
+use Rattle.txn_types.specs.Letters.{Named, named_in, given_out}
 use Rattle.world_laws.proofs.Clocks.{no_appends, none_parts, started_is}
 use Rattle.serving_laws.specs.Telling.{IsToldBy}
 use Rattle.serving_laws.proofs.Starting.{start_serves, first_serves}

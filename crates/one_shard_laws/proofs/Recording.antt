@@ -16,7 +16,7 @@ use Rattle.participant.proofs.Moving.{entry_here}
 use Rattle.part_laws.specs.Each.{Each}
 use Rattle.durable_laws.proofs.Facts.{image_append}
 use Rattle.txn_model.specs.Commits.{commits}
-use Rattle.cluster_core.specs.Naming.{Named}
+use Rattle.txn_types.specs.Letters.{Named}
 use Rattle.one_shard_laws.specs.Sessions.{SessionsNamed, TablesGo, IsHeld}
 use Rattle.one_shard_laws.specs.Alone.{RecAlone}
 use Rattle.one_shard_laws.specs.Lasting.{commits_by, RecordsAlone}

@@ -28,7 +28,7 @@ use Rattle.shard_core.specs.Participating.{answers, outcome_if, changed, ended_b
 use Rattle.shard_core.specs.Coordinating.{tells, recovers, larger_number, unless_coordinated}
 use Rattle.shard_core.specs.Coordinating.{unless_older, on_recover, on_resend}
 use Rattle.shard_core.specs.Rules.{ruled, from_router, router_of}
-use Rattle.cluster_core.specs.Naming.{Named, named_in}
+use Rattle.txn_types.specs.Letters.{Named, named_in}
 use Rattle.one_shard_laws.specs.Sessions.{SessionsNamed, GoesOn, IsOnce}
 use Rattle.one_shard_laws.specs.Alone.{IsAlone, RecHeld, SaidAtLeast, ServedAtLeast}
 use Rattle.one_shard_laws.proofs.Sessions.{same_goes, statement_goes, commit_goes}

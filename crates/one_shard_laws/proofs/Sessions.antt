@@ -47,7 +47,7 @@ use Rattle.participant.proofs.Ends.{entry_elsewhere}
 use Rattle.participant.proofs.Following.{either_is}
 use Rattle.participant.proofs.Moving.{entry_here}
 use Rattle.participant.proofs.Tags.{lsid_same, tag_same}
-use Rattle.cluster_core.specs.Naming.{Named}
+use Rattle.txn_types.specs.Letters.{Named}
 use Rattle.one_shard_laws.specs.Sessions.{AtLeast, name_of, SessionsNamed, TablesGo, GoesOn, IsOnce}
 use Rattle.one_shard_laws.specs.Alone.{RecHeld, IsMeant, SaidAtLeast}
 

@@ -28,8 +28,8 @@ use Rattle.shard_core.specs.Wanting.{wanting, Wanting, told_if, told_memory, may
 use Rattle.shard_core.specs.Core.{Room, Ample, Scarce, Short, CoreStep, core_step, step_if, stepped}
 use Rattle.shard_core.specs.Core.{stays, entered, happened, scarce, running_step, stopped_step}
 use Rattle.shard_core.specs.Core.{answer_stopped, says_stopped, answer_of}
-use Rattle.cluster_core.specs.Naming.{Named, given_out}
-use Rattle.world_laws.specs.Effect.{NamesBy}
+use Rattle.txn_types.specs.Letters.{Named, given_out}
+use Rattle.shard_core.specs.Effect.{NamesBy}
 use Rattle.one_shard_laws.specs.Sessions.{SessionsNamed, GoesOn, IsOnce}
 use Rattle.one_shard_laws.specs.Alone.{IsAlone, EventAlone, EventAtLeast, ServedAtLeast, RecHeld}
 use Rattle.one_shard_laws.specs.Alone.{StepAlone}

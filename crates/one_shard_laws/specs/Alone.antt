@@ -19,7 +19,7 @@ use Rattle.session_table.specs.declared.session.Session.{Session}
 use Rattle.participant.specs.Part.{session}
 use Rattle.shard_core.specs.State.{ShardState}
 use Rattle.shard_core.specs.Core.{CoreStep}
-use Rattle.cluster_core.specs.Naming.{Named, given_out}
+use Rattle.txn_types.specs.Letters.{Named, given_out}
 use Rattle.one_shard_laws.specs.Sessions.{AtLeast, GoesOn}
 
 -- a message that no commit of several shards needs; an Answer is the first shard's

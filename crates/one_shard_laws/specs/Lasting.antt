@@ -14,7 +14,7 @@ use Rattle.shard_core.specs.State.{ShardState}
 use Rattle.shard_core.specs.NodeStep.{NodeState}
 use Rattle.durable_laws.specs.Backed.{IsBacked, IsDurableNode}
 use Rattle.txn_model.specs.Commits.{commits}
-use Rattle.cluster_core.specs.Naming.{Named, named_in}
+use Rattle.txn_types.specs.Letters.{Named, named_in}
 use Rattle.cluster_core.specs.Nodes.{Nodes}
 use Rattle.serving_laws.specs.Telling.{IsToldBy}
 use Rattle.one_shard_laws.specs.Sessions.{SessionsNamed, IsHeld}

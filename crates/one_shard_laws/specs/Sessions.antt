@@ -6,7 +6,7 @@ use Rattle.txn_types.specs.declared.node.Lsid.{Lsid}
 use Rattle.session_table.specs.declared.session.Session.{Session}
 use Rattle.session_table.specs.Sessions.{Table, session_of}
 use Rattle.participant.specs.Part.{Part}
-use Rattle.cluster_core.specs.Naming.{Named}
+use Rattle.txn_types.specs.Letters.{Named}
 
 -- the session stands with a number as great
 abbrev pub AtLeast : Table → Lsid → ℤ → Type 0

@@ -12,7 +12,7 @@ ghost use Rattle.txn_model.specs.declared.ran.Ran.{Ran};
 ghost use Rattle.cluster_core.specs.Nodes.{Nodes, journals_of, commits_of};
 ghost use Rattle.cluster_core.specs.Right.{boots_of};
 ghost use Rattle.cluster_core.specs.Trace.{Happens, IsTrace};
-ghost use Rattle.world_laws.specs.Effect.{NamesBy};
+ghost use Rattle.shard_core.specs.Effect.{NamesBy};
 ghost use Rattle.world_laws.specs.Joint.{Stands};
 ghost use Rattle.one_shard_laws.specs.Sessions.{SessionsNamed, IsOnce};
 ghost use Rattle.one_shard_laws.specs.Alone.{EventAlone, StepAlone};

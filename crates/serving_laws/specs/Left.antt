@@ -15,7 +15,7 @@ use Rattle.part_laws.specs.Parts.{Holds, HoldsBut}
 use Rattle.part_laws.specs.Kept.{CommitsBy, PreparesBy}
 use Rattle.shard_core.specs.State.{ShardState}
 use Rattle.shard_core.specs.Core.{CoreStep}
-use Rattle.cluster_core.specs.Naming.{given_out}
+use Rattle.txn_types.specs.Letters.{given_out}
 use Rattle.serving_laws.specs.Telling.{IsToldBy, Grows}
 
 -- a record of no commit here, of nothing that is prepared here and of no decision applied here

@@ -45,7 +45,7 @@ use Rattle.router_rules.specs.Times.{walled}
 use Rattle.router_state.specs.State.{is_waiting}
 use Rattle.router_plan.specs.Messages.{asked_in}
 use Rattle.op_msg.specs.Asking.{wants_reply}
-use Rattle.cluster_core.specs.Naming.{given_out}
+use Rattle.txn_types.specs.Letters.{given_out}
 use Rattle.participant.proofs.Cases.{either}
 use Rattle.router_state.specs.declared.state.Asker.{Asker}
 use Rattle.router_state.specs.declared.state.Phase.{Phase}

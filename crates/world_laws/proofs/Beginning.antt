@@ -55,9 +55,9 @@ use Rattle.router_core.specs.Requests as rq
 use Rattle.router_core.specs.Step as sp
 use Rattle.shard_image.proofs.Sessions.{entry_there, lsid_is}
 use Rattle.participant.proofs.Cases.{either}
-use Rattle.cluster_core.specs.Naming.{Named, named_in, given_out}
+use Rattle.txn_types.specs.Letters.{Named, named_in, given_out}
 use Rattle.world_laws.specs.Begins.{begins_unless, begins_by, begins_asked, begins_at, begins, PostNames, AllNames, DoingNames, EntryNames, RouterNames, GoesOn, DeedNames, AllGo, MoveNames, Kept, Drew, Leaves}
-use Rattle.world_laws.specs.Effect.{SentNames}
+use Rattle.shard_core.specs.Effect.{SentNames}
 use Rattle.world_laws.proofs.Naming.{one, each}
 use Rattle.world_laws.proofs.Deeds.{Own, name_of, both_name, own_deed, asks_name, leaves_name, commit_asked_names, client_aborts_name, answered_names, ended_names, gone_names, session_names, stays_names, seeks_in_names, anew_given}
 use Rattle.world_laws.proofs.Going.{first_is, rest_is, some_same, all_self, all_then, done_names, in_each_names}

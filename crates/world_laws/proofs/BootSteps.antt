@@ -49,8 +49,8 @@ use Rattle.shard_core.specs.Coordinating.{asks, tells, starts, plan_of, told_of,
 use Rattle.shard_core.specs.Rules.{ruled, from_router, router_of}
 use Rattle.shard_core.specs.Wanting.{wanting, Wanting, told_if, told_memory, may_be_told}
 use Rattle.shard_core.specs.Core.{Room, Ample, Scarce, Short, CoreStep, core_step, step_if, stepped, stays, entered, happened, scarce, running_step, stopped_step, answer_stopped, says_stopped, gives_out, answer_of}
-use Rattle.cluster_core.specs.Naming.{given_out}
-use Rattle.world_laws.specs.Effect.{Same}
+use Rattle.txn_types.specs.Letters.{given_out}
+use Rattle.shard_core.specs.Effect.{Same}
 use Rattle.world_laws.specs.Boots.{PartsTold, AskedBoots, BootsTo, LetterBoots, EnvBoots, BootsBy, CoordinatedTold, PlansTold, BeginsTold}
 use Rattle.world_laws.proofs.Numbers.{statement_same, recover_same, commit_as, prepare_as, CommitsAt, PreparesAt, expire_same}
 use Rattle.world_laws.proofs.Naming.{one, each, put_all, taken_all, found, vote_plan}

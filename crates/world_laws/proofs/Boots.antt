@@ -31,10 +31,10 @@ use Rattle.shard_core.specs.Core.{CoreStep, core_step}
 use Rattle.shard_core.specs.NodeStep.{NodeState, ShardTakes, Appended, Failed, boot_behind, started}
 use Rattle.txn_model.specs.declared.ran.Ran.{Ran}
 use Rattle.txn_model.specs.declared.ran.Ran.TheVariants.{Step, Swapped}
-use Rattle.cluster_core.specs.Naming.{given_out}
+use Rattle.txn_types.specs.Letters.{given_out}
 use Rattle.cluster_core.specs.Nodes.{Nodes}
 use Rattle.cluster_core.specs.Trace.{Happens, IsFresh, MayCome, MayRemain, again}
-use Rattle.world_laws.specs.Effect.{MayRecord, StepRecords}
+use Rattle.shard_core.specs.Effect.{MayRecord, StepRecords}
 use Rattle.world_laws.specs.Clocks.{EachShard}
 use Rattle.world_laws.specs.Tags.{BeginsNamed}
 use Rattle.world_laws.specs.Joint.{NoName}

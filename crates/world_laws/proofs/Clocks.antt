@@ -17,7 +17,7 @@ use Rattle.shard_core.specs.Laws.{HasTimes, KeepsTime}
 use Rattle.shard_core.proofs.Stepping.{step_keeps}
 use Rattle.txn_model.specs.declared.ran.Ran.{Ran}
 use Rattle.txn_model.specs.declared.ran.Ran.TheVariants.{Step, Swapped}
-use Rattle.cluster_core.specs.Naming.{Named}
+use Rattle.txn_types.specs.Letters.{Named}
 use Rattle.cluster_core.specs.Nodes.{Nodes}
 use Rattle.cluster_core.specs.Trace.{Happens, MayRemain}
 use Rattle.cluster_core.specs.Parts.{IsRunning, last_ceiling, ClockBelowCeiling}

@@ -33,7 +33,7 @@ use Rattle.router_rules.specs.Serving.{answered_in, ended_in}
 use Rattle.router_rules.specs.Statements as st
 use Rattle.router_rules.specs.Tokens as tk
 use Rattle.participant.proofs.Cases.{either}
-use Rattle.cluster_core.specs.Naming.{Named}
+use Rattle.txn_types.specs.Letters.{Named}
 use Rattle.world_laws.specs.Begins.{PostNames, AllNames, DoingNames, GivenNames, SameDoing, DeedNames}
 use Rattle.world_laws.proofs.Naming.{one, each}
 

@@ -36,8 +36,8 @@ use Rattle.shard_core.specs.Ruled.{Ruled, quiet, coordinates}
 use Rattle.shard_core.specs.Participating.{answers, outcome_if, vote_if, decided_record, changed}
 use Rattle.shard_core.specs.Coordinating.{asks, tells, starts, plan_of, told_of, unless_coordinated, unless_older, unless_known, larger_number, starts_own, starts_new, votes_on, votes_if, acks_if, on_commit_two, on_recover, recovers}
 use Rattle.shard_core.specs.Rules.{ruled, from_router, router_of}
-use Rattle.cluster_core.specs.Naming.{Named}
-use Rattle.world_laws.specs.Effect.{Same, MayRecord, plan_name, NamesOnly, AllName, Effect}
+use Rattle.txn_types.specs.Letters.{Named}
+use Rattle.shard_core.specs.Effect.{Same, MayRecord, plan_name, NamesOnly, AllName, Effect}
 use Rattle.world_laws.proofs.Numbers.{statement_same, abort_same, recover_same, decide_as, commit_as, prepare_as, CommitsAt, PreparesAt}
 use Rattle.world_laws.proofs.Naming.{nothing, one, each, put_all, found, voted_plans, acked_plans, prepares_name, decides_name, resends_name}
 

@@ -13,7 +13,7 @@ use Rattle.router_state.specs.declared.state.Session.{Session}
 use Rattle.router_state.specs.Deeds.{done_in, each_session, in_each_session}
 use Rattle.router_state.specs.State.{RouterState, session_of}
 use Rattle.shard_image.proofs.Sessions.{own_lsid, lsid_is}
-use Rattle.cluster_core.specs.Naming.{Named}
+use Rattle.txn_types.specs.Letters.{Named}
 use Rattle.world_laws.specs.Begins.{PostNames, DoingNames, EntryNames, RouterNames, GivenNames, SameDoing, GoesOn, DeedNames, AllGo, MoveNames, IsIn, HasCome}
 use Rattle.world_laws.proofs.Deeds.{both_name}
 use Rattle.world_laws.proofs.PartTimes.{entries_put}

@@ -11,7 +11,7 @@ use Rattle.router_state.specs.State.{RouterState}
 use Rattle.shard_image.specs.Image.{image_of}
 use Rattle.shard_core.specs.NodeStep.{NodeState, started, boot_behind}
 use Rattle.txn_model.specs.declared.ran.Ran.{Ran}
-use Rattle.cluster_core.specs.Naming.{Named}
+use Rattle.txn_types.specs.Letters.{Named}
 use Rattle.cluster_core.specs.Nodes.{Nodes}
 use Rattle.cluster_core.specs.Trace.{Happens, IsTrace, IsFresh}
 use Rattle.cluster_core.specs.Parts.{AnswersBehind, HasCommit, IsRecorded, last_ceiling, names_of}

@@ -13,8 +13,8 @@ use Rattle.txn_semantics.specs.Keyed.{put, taken_out}
 use Rattle.coordinator.specs.declared.plan.Plan.{Plan}
 use Rattle.coordinator.specs.TwoPhase.{Coordinated, Coordinations, coordinated_of, counts, voted, behind_vote, acked, ack_counts, all_acked, with_ack, prepare_to, decide_to, resends, resends_by, Participant}
 use Rattle.participant.proofs.Cases.{either}
-use Rattle.cluster_core.specs.Naming.{Named}
-use Rattle.world_laws.specs.Effect.{plan_name, AllPlans, NamesOnly, AllName}
+use Rattle.txn_types.specs.Letters.{Named}
+use Rattle.shard_core.specs.Effect.{plan_name, AllPlans, NamesOnly, AllName}
 
 pub nothing : {A : Type 0} (P : A → Type 0) → All P []
 nothing P = All-nil P

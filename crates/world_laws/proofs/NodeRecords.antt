@@ -36,7 +36,7 @@ use Rattle.shard_core.specs.NodeStep.{NodeState, ShardTakes, Appended, Failed, a
 use Rattle.txn_model.specs.Commits.{records_of}
 use Rattle.txn_model.specs.declared.ran.Ran.{Ran}
 use Rattle.txn_model.specs.declared.ran.Ran.TheVariants.{Step, Swapped}
-use Rattle.cluster_core.specs.Naming.{given_out}
+use Rattle.txn_types.specs.Letters.{given_out}
 use Rattle.cluster_core.specs.Nodes.{Nodes, journals_of}
 use Rattle.cluster_core.specs.Trace.{Happens, MayCome, MayRemain}
 use Rattle.cluster_core.specs.Parts.{IsRunning, IsCommitAs, HasPrepared, HasCommit, VoteRecorded, OutcomeRecorded, DecisionRecorded, IsRecorded, CommitsRecorded}

@@ -19,12 +19,12 @@ use Rattle.router_core.specs.Requests.{next_tag}
 use Rattle.router_core.specs.Step.{RouterTakes, router_step, answer_of}
 use Rattle.txn_model.specs.declared.ran.Ran.{Ran}
 use Rattle.txn_model.specs.declared.ran.Ran.TheVariants.{Step, Swapped}
-use Rattle.cluster_core.specs.Naming.{Named, named_in, given_out}
+use Rattle.txn_types.specs.Letters.{Named, named_in, given_out}
 use Rattle.cluster_core.specs.Nodes.{Nodes}
 use Rattle.cluster_core.specs.Parts.{names_of, TagsBegunOnce, WasDrawn}
 use Rattle.cluster_core.specs.Trace.{Happens, IsFresh, RouterSteps, again}
 use Rattle.world_laws.specs.Begins.{begins, PostNames, DoingNames, EntryNames, RouterNames, IsIn, HasCome, IsDrawn, BegunOnce, AllBegunOnce, Kept, Drew, Leaves}
-use Rattle.world_laws.specs.Effect.{SentNames}
+use Rattle.shard_core.specs.Effect.{SentNames}
 use Rattle.world_laws.specs.Tags.{AllPlansNamed}
 use Rattle.world_laws.proofs.Lists.{get_set, set_get, set_there}
 use Rattle.world_laws.proofs.Going.{some_same, come_on}

@@ -37,7 +37,7 @@ use Rattle.coordinator.specs.TwoPhase.{Coordinated, Coordinations, coordinated_o
 use Rattle.participant.specs.Laws.{DecisionBehind}
 use Rattle.shard_image.specs.Image.{decided_if}
 use Rattle.shard_core.specs.NodeStep.{ceiling_append, record_append, core_of}
-use Rattle.cluster_core.specs.Naming.{given_out}
+use Rattle.txn_types.specs.Letters.{given_out}
 use Rattle.cluster_core.specs.Trace.{MayCome}
 use Rattle.cluster_core.specs.Parts.{IsBehind, RecordsBehind, AnswersBehind, AtShard, time_in, decision_time, ReadsBehind}
 use Rattle.world_laws.specs.Behind.{StateBehind, CoordinatedBehind, CoordBehind, MsgBehind, LetterBehind, RecBehind, CoreBehind, EnvBehind, EventBehind}

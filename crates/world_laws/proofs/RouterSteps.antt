@@ -12,7 +12,7 @@ use Rattle.router_state.specs.State.{RouterState}
 use Rattle.router_core.specs.Step.{RouterTakes}
 use Rattle.txn_model.specs.declared.ran.Ran.{Ran}
 use Rattle.txn_model.specs.declared.ran.Ran.TheVariants.{Step, Swapped}
-use Rattle.cluster_core.specs.Naming.{given_out}
+use Rattle.txn_types.specs.Letters.{given_out}
 use Rattle.cluster_core.specs.Nodes.{Nodes}
 use Rattle.cluster_core.specs.Trace.{Happens, again}
 use Rattle.world_laws.specs.ReadTimes.{IsAsked, RoutersAsk}

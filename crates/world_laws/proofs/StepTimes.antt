@@ -23,7 +23,7 @@ use Rattle.shard_core.specs.Coordinating.{on_resend}
 use Rattle.shard_core.specs.Rules.{ruled, router_of}
 use Rattle.shard_core.specs.Wanting.{wanting, Wanting, told_if, told_memory, may_be_told}
 use Rattle.shard_core.specs.Core.{Room, Ample, Scarce, Short, CoreStep, core_step, step_if, stepped, stays, entered, happened, scarce, running_step, answer_stopped, says_stopped, gives_out, answer_of}
-use Rattle.cluster_core.specs.Naming.{given_out}
+use Rattle.txn_types.specs.Letters.{given_out}
 use Rattle.participant.specs.Laws.{DecisionBehind}
 use Rattle.txn_types.specs.declared.cause.Cause.{Cause}
 use Rattle.txn_types.specs.declared.decision.Decision.{Decision}

@@ -26,8 +26,8 @@ use Rattle.shard_core.specs.Wanting.{wanting, Wanting, told_if, told_memory, may
 use Rattle.shard_core.specs.Core.{Room, Ample, Scarce, Short, CoreStep, core_step, step_if, stepped, stays, entered, happened, scarce, running_step, stopped_step, answer_stopped, says_stopped, gives_out, answer_of}
 use Rattle.shard_core.specs.Laws.{KeepsCeiling}
 use Rattle.shard_core.proofs.Keeping.{ruled_keeps}
-use Rattle.cluster_core.specs.Naming.{given_out, Named, named_in}
-use Rattle.world_laws.specs.Effect.{Same, MayRecord, NamesOnly, AllName, Effect, NamesBy, SentNames, StepRecords, StepEffect, Rests}
+use Rattle.txn_types.specs.Letters.{given_out, Named, named_in}
+use Rattle.shard_core.specs.Effect.{Same, MayRecord, NamesOnly, AllName, Effect, NamesBy, SentNames, StepRecords, StepEffect, Rests}
 use Rattle.world_laws.proofs.Numbers.{expire_same, memory_same}
 use Rattle.world_laws.proofs.Naming.{nothing, one, resends_name}
 use Rattle.world_laws.proofs.Effects.{ruled_does}

@@ -24,11 +24,11 @@ use Rattle.shard_core.specs.NodeStep.{NodeState, ShardTakes, boot_behind, starte
 use Rattle.router_state.specs.State.{RouterState}
 use Rattle.txn_model.specs.declared.ran.Ran.{Ran}
 use Rattle.txn_model.specs.declared.ran.Ran.TheVariants.{Step, Swapped}
-use Rattle.cluster_core.specs.Naming.{given_out, Named, named_in}
+use Rattle.txn_types.specs.Letters.{given_out, Named, named_in}
 use Rattle.cluster_core.specs.Nodes.{Nodes}
 use Rattle.cluster_core.specs.Trace.{Happens, ShardSteps, ShardStarts, RouterStarts, MayCome, MayRemain, again}
 use Rattle.cluster_core.specs.Parts.{names_of, TagsBegunOnce, WasDrawn}
-use Rattle.world_laws.specs.Effect.{AllPlans, plan_name, NamesBy, SentNames, MayRecord, StepRecords}
+use Rattle.shard_core.specs.Effect.{AllPlans, plan_name, NamesBy, SentNames, MayRecord, StepRecords}
 use Rattle.world_laws.specs.Clocks.{EachShard}
 use Rattle.world_laws.specs.Tags.{BeginsNamed, PlansNamed, AllPlansNamed}
 use Rattle.world_laws.proofs.Lists.{set_get}

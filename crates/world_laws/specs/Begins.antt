@@ -24,7 +24,7 @@ use Rattle.router_plan.specs.declared.message.Unserved.{Unserved}
 use Rattle.router_plan.specs.Messages.{asked_in}
 use Rattle.router_plan.specs.Refusals.{begun_in, statement_refusal}
 use Rattle.router_core.specs.Requests.{next_tag, by_itself}
-use Rattle.cluster_core.specs.Naming.{Named, named_in}
+use Rattle.txn_types.specs.Letters.{Named, named_in}
 use Rattle.cluster_core.specs.Nodes.{Nodes}
 use Rattle.cluster_core.specs.Parts.{names_of}
 

@@ -18,7 +18,7 @@ use Rattle.shard_core.specs.State.{ShardState}
 use Rattle.shard_core.specs.Ruled.{Ruled}
 use Rattle.shard_core.specs.Core.{CoreStep}
 use Rattle.shard_core.specs.Laws.{IsBehind}
-use Rattle.cluster_core.specs.Naming.{given_out}
+use Rattle.txn_types.specs.Letters.{given_out}
 use Rattle.cluster_core.specs.Parts.{time_in}
 
 abbrev pub StateBehind : ℕ → SessionState → Type 0

@@ -3,7 +3,7 @@
 -- boots, and of what is resolved. Each event keeps it as a whole.
 use Rattle.std.specs.Prelude.{◌<◌, ◌^◌, List, All}
 use Rattle.journal_rec.specs.declared.record.Rec.{Rec}
-use Rattle.cluster_core.specs.Naming.{Named}
+use Rattle.txn_types.specs.Letters.{Named}
 use Rattle.cluster_core.specs.Nodes.{Nodes}
 use Rattle.cluster_core.specs.Parts.{last_ceiling, TagsBegunOnce, HasCommit}
 use Rattle.world_laws.specs.Clocks.{EachShard, ClocksStand}

@@ -1,4 +1,3 @@
-pub mod Effect
 pub mod Clocks
 pub mod Tags
 pub mod Behind

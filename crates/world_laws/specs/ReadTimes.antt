@@ -9,7 +9,7 @@ use Rattle.shard_core.specs.NodeStep.{NodeState}
 use Rattle.txn_model.specs.declared.ran.Ran.{Ran}
 use Rattle.txn_model.specs.declared.ran.Ran.TheVariants.{Step}
 use Rattle.cluster_core.specs.Nodes.{Nodes}
-use Rattle.cluster_core.specs.Naming.{given_out}
+use Rattle.txn_types.specs.Letters.{given_out}
 use Rattle.cluster_core.specs.Parts.{IsRunning, last_ceiling, RecordsBehind, AnswersBehind}
 use Rattle.world_laws.specs.Behind.{CoreBehind, RecBehind, MsgBehind}
 use Rattle.world_laws.specs.Clocks.{EachShard}

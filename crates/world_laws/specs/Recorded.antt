@@ -22,7 +22,7 @@ use Rattle.shard_core.specs.State.{ShardState}
 use Rattle.shard_core.specs.Ruled.{Ruled}
 use Rattle.shard_core.specs.Core.{CoreStep}
 use Rattle.shard_core.specs.NodeStep.{NodeState}
-use Rattle.cluster_core.specs.Naming.{given_out}
+use Rattle.txn_types.specs.Letters.{given_out}
 use Rattle.cluster_core.specs.Nodes.{Nodes}
 use Rattle.cluster_core.specs.Parts.{IsRunning, IsPreparedAs, HasCommit, CommitsRecorded}
 use Rattle.world_laws.specs.Clocks.{EachShard}

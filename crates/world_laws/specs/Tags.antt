@@ -4,10 +4,10 @@ use Rattle.std.specs.Prelude.{All, Contains}
 use Rattle.journal_rec.specs.declared.record.Rec.{Rec}
 use Rattle.journal_rec.specs.declared.record.Rec.TheVariants as rec
 use Rattle.shard_core.specs.NodeStep.{NodeState}
-use Rattle.cluster_core.specs.Naming.{Named}
+use Rattle.txn_types.specs.Letters.{Named}
 use Rattle.cluster_core.specs.Nodes.{Nodes}
 use Rattle.cluster_core.specs.Parts.{names_of}
-use Rattle.world_laws.specs.Effect.{AllPlans}
+use Rattle.shard_core.specs.Effect.{AllPlans}
 use Rattle.world_laws.specs.Clocks.{EachShard}
 
 abbrev pub BeginsNamed : (Named → Type 0) → Rec → Type 0

@@ -19,7 +19,7 @@ use Rattle.participant.specs.Part.{Part}
 use Rattle.shard_core.specs.State.{ShardState, met}
 use Rattle.shard_core.specs.Ruled.{Ruled}
 use Rattle.shard_core.specs.Core.{CoreStep, entered}
-use Rattle.cluster_core.specs.Naming.{given_out, Named, named, named_in}
+use Rattle.txn_types.specs.Letters.{given_out, Named, named, named_in}
 
 -- a part keeps its shard's number and boot
 pub record Same (p q : Part) : Type 0 where
