@@ -4,7 +4,7 @@ use Rattle.std.specs.Prelude.{filter_map, is_some}
 use Rattle.std.proofs.lemmas.List.Elements.{All-head}
 use Rattle.txn_types.specs.declared.message.Answer.{Answer}
 use Rattle.txn_types.specs.declared.message.Envelope.{Envelope}
-use Rattle.txn_semantics.specs.Meaning.{Meaning, words}
+use Rattle.txn_semantics.specs.Meaning.{Meaning, document_rules}
 use Rattle.txn_semantics.specs.Splits.{outcome}
 use Rattle.txn_semantics.specs.declared.commits.Answered.{Answered}
 use Rattle.cluster_core.specs.Answering.{Unanswered, answered_of, meaning_in, read_at_of}
@@ -34,7 +34,7 @@ of_answers sent u ((n, x) ∷ []) is long given says =
       k = g.k;
       read_at = sym (ap read_at_of is);
       says = m.1;
-      outcome = ap (λ (answers : List (ℕ × Answer)). outcome words u.op (filter_map meaning_in answers)) is ∙ ap (outcome words u.op) told;
+      outcome = ap (λ (answers : List (ℕ × Answer)). outcome document_rules u.op (filter_map meaning_in answers)) is ∙ ap (outcome document_rules u.op) told;
     }
 
 pub of_one : (sent : List Envelope) (begun : List Unanswered) (a : Answered) (h : IsAnswered sent begun a) → length h.statement.shards ≡ 1 → IsOfOne sent a

@@ -5,7 +5,7 @@ use Rattle.txn_types.specs.declared.message.Envelope.{Envelope}
 use Rattle.txn_types.specs.declared.message.Msg.TheVariants as msg
 use Rattle.txn_types.specs.declared.node.NodeId.TheVariants.{Router}
 use Rattle.txn_semantics.specs.declared.commits.Answered.{Answered}
-use Rattle.txn_semantics.specs.Meaning.{Meaning, words}
+use Rattle.txn_semantics.specs.Meaning.{Meaning, document_rules}
 use Rattle.txn_semantics.specs.Splits.{outcome}
 use Rattle.cluster_core.specs.Answering.{Unanswered, answered_of, meaning_in}
 
@@ -49,4 +49,4 @@ pub record IsOfOne (sent : List Envelope) (a : Answered) : Type 0 where
   pub k : answer.k ≡ a.k
   pub read_at : answer.read_at ≡ a.read_at
   pub says : meaning_in (answer.shard, answer) ≡ Some meaning
-  pub outcome : a.outcome ≡ outcome words a.op (meaning ∷ [])
+  pub outcome : a.outcome ≡ outcome document_rules a.op (meaning ∷ [])

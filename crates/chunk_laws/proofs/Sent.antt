@@ -12,7 +12,7 @@ use Rattle.txn_types.specs.declared.operation.DeleteItem.{DeleteItem}
 use Rattle.txn_types.specs.declared.operation.Op.{Op}
 use Rattle.txn_types.specs.declared.operation.Op.TheVariants.{Insert, Find, Update, Delete}
 use Rattle.txn_semantics.specs.Filters.{matches}
-use Rattle.txn_semantics.specs.Meaning.{words, ns_of}
+use Rattle.txn_semantics.specs.Meaning.{document_rules, ns_of}
 use Rattle.txn_semantics.specs.Routed.{Routes, HasOneShard, AllItems, IsRouted}
 use Rattle.txn_semantics.specs.Rows.{Row}
 use Rattle.txn_semantics.specs.Splits.{times, GoOnce}
@@ -38,7 +38,7 @@ more_case n None ns h = h
 more_case n (Some m) ns h = or_true (nat_eq n m) h
 
 goes_in : (place : Id → ℕ) (shards : List ℕ) (docs : List InsertItem)
-    → ((n : ℕ) → list_any (nat_eq n) (filter_map (λ (item : InsertItem). option_map place (id_in item.doc)) docs) ≡ true → times n shards ≡ 1) → GoOnce words place shards docs
+    → ((n : ℕ) → list_any (nat_eq n) (filter_map (λ (item : InsertItem). option_map place (id_in item.doc)) docs) ≡ true → times n shards ≡ 1) → GoOnce document_rules place shards docs
 goes_in place shards [] once = tt
 goes_in place shards (item ∷ docs) once = (
   (λ id is. once (place id) (here_case 0 place id (id_in item.doc) (filter_map (λ (item : InsertItem). option_map place (id_in item.doc)) docs) is)),
@@ -86,7 +86,7 @@ at_head m ns wanted is (s ∷ shards) e short = (
 at_one : (m : Map) (ns : List ℕ) (wanted : Filter) → IsMap m → nat_lt 1 (length (shards_for m ns wanted)) ≡ false → (s : ℕ) × ((row : Row) → id_in row.1 ≡ Some row.0 → matches wanted row.1 ≡ true → shard_of m ns row.0 ≡ s)
 at_one m ns wanted is short = at_head m ns wanted is (shards_for m ns wanted) refl short
 
-has_one : (m : Map) (ns : List ℕ) (many : Bool) (wanted : Filter) → IsMap m → is_spread m ns many wanted ≡ false → HasOneShard words (shard_of m ns) many wanted
+has_one : (m : Map) (ns : List ℕ) (many : Bool) (wanted : Filter) → IsMap m → is_spread m ns many wanted ≡ false → HasOneShard document_rules (shard_of m ns) many wanted
 has_one m ns many wanted is spread = λ one. at_one m ns wanted is (one_case m ns many wanted one spread)
 
 -- Items with filters.
@@ -102,17 +102,17 @@ or_second_false false b h = h
 all_routed : {I : Type 0} (m : Map) (ns : List ℕ) (many : I → Bool) (wanted : I → Filter) (shards : List ℕ) → IsMap m → (items : List I)
     → list_any (λ item. is_spread m ns (many item) (wanted item)) items ≡ false
     → ((n : ℕ) → list_any (nat_eq n) (flat_map (λ item. shards_for m ns (wanted item)) items) ≡ true → times n shards ≡ 1)
-    → AllItems (λ item. Routes words (shard_of m ns) shards (wanted item) × HasOneShard words (shard_of m ns) (many item) (wanted item)) items
+    → AllItems (λ item. Routes document_rules (shard_of m ns) shards (wanted item) × HasOneShard document_rules (shard_of m ns) (many item) (wanted item)) items
 all_routed m ns many wanted shards is [] spread once = tt
 all_routed m ns many wanted shards is (item ∷ items) spread once =
     let rest = flat_map (λ item. shards_for m ns (wanted item)) items in
     let own = shards_for m ns (wanted item) in
-    let here : Routes words (shard_of m ns) shards (wanted item) = λ row has h. once (shard_of m ns row.0) (any_append (shard_of m ns row.0) own rest (named_among (shard_of m ns row.0) own (asked m ns (wanted item) row.0 row.1 is has h))) in
-    let one : HasOneShard words (shard_of m ns) (many item) (wanted item) = has_one m ns (many item) (wanted item) is (or_first_false (is_spread m ns (many item) (wanted item)) (list_any (λ item. is_spread m ns (many item) (wanted item)) items) spread) in
+    let here : Routes document_rules (shard_of m ns) shards (wanted item) = λ row has h. once (shard_of m ns row.0) (any_append (shard_of m ns row.0) own rest (named_among (shard_of m ns row.0) own (asked m ns (wanted item) row.0 row.1 is has h))) in
+    let one : HasOneShard document_rules (shard_of m ns) (many item) (wanted item) = has_one m ns (many item) (wanted item) is (or_first_false (is_spread m ns (many item) (wanted item)) (list_any (λ item. is_spread m ns (many item) (wanted item)) items) spread) in
     let more = all_routed m ns many wanted shards is items (or_second_false (is_spread m ns (many item) (wanted item)) (list_any (λ item. is_spread m ns (many item) (wanted item)) items) spread) (λ n there. once n (any_behind n own rest there)) in
     ((here, one), more)
 
-pub routed : (m : Map) (op : Op) → IsMap m → IndicesOfItemsRise op → has_spread m op ≡ false → IsRouted words (shard_of m (ns_of op)) (shards_of m op) op
+pub routed : (m : Map) (op : Op) → IsMap m → IndicesOfItemsRise op → has_spread m op ≡ false → IsRouted document_rules (shard_of m (ns_of op)) (shards_of m op) op
 unfolding shards_of has_spread
 routed m (Insert ns docs) is rise spread = (rise, goes_in (shard_of m ns) (shards_of m (Insert ns docs)) docs (λ n there. among_once n (filter_map (λ (item : InsertItem). option_map (shard_of m ns) (id_in item.doc)) docs) there))
 routed m (Find ns wanted down limit) is rise spread = λ row has h. asked m ns wanted row.0 row.1 is has h

@@ -6,7 +6,7 @@ ghost use Rattle.txn_types.specs.declared.filter.Filter.{Filter};
 ghost use Rattle.txn_types.specs.declared.id.Id.{Id};
 ghost use Rattle.txn_types.specs.declared.operation.Op.{Op};
 ghost use Rattle.txn_semantics.specs.Filters.{matches};
-ghost use Rattle.txn_semantics.specs.Meaning.{words, ns_of};
+ghost use Rattle.txn_semantics.specs.Meaning.{document_rules, ns_of};
 ghost use Rattle.txn_semantics.specs.Routed.{IsRouted};
 ghost use Rattle.txn_semantics.specs.Splits.{times};
 ghost use Rattle.chunk_map.specs.Map.{Map, IsMap};
@@ -23,5 +23,5 @@ pub fn what_matches_is_asked_for()
 /// A statement whose items for one document have each one shard, as a router sees to, is sent where its filters and documents
 /// belong, so that what is told of its parts is what is told of the whole.
 pub fn a_statement_is_routed()
-    ensures { (m : Map) (op : Op) → IsMap m → IndicesOfItemsRise op → has_spread m op ≡ false → IsRouted words (shard_of m (ns_of op)) (shards_of m op) op }
+    ensures { (m : Map) (op : Op) → IsMap m → IndicesOfItemsRise op → has_spread m op ≡ false → IsRouted document_rules (shard_of m (ns_of op)) (shards_of m op) op }
 {}

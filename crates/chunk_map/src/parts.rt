@@ -9,7 +9,7 @@ impl ChunkMap {
     ghost use Rattle.std.specs.Prelude.{◌≡◌, filter_map, flat_map, option_map, filter, IfOk};
     ghost use Rattle.std.specs.List.{list_any};
     ghost use Rattle.txn_types.specs.Ids.{id_in};
-    ghost use Rattle.txn_semantics.specs.Meaning.{words};
+    ghost use Rattle.txn_semantics.specs.Meaning.{document_rules};
     ghost use Rattle.txn_semantics.specs.Splits.{here, goes};
     ghost use Rattle.chunk_map.specs.Place.{shard_of, shards_for};
     ghost use Rattle.chunk_map.specs.Parts.{shards_of, part_at, is_spread, has_spread};
@@ -96,7 +96,7 @@ impl ChunkMap {
         items: &[InsertItem],
         shard: u16,
     ) -> Result<InsertItems, AllocError>
-        ensures { IfOk result (λ i. i ≡ filter (goes words (here (shard_of self.now ns.now) shard)) items.now) }
+        ensures { IfOk result (λ i. i ≡ filter (goes document_rules (here (shard_of self.now ns.now) shard)) items.now) }
     {
         let mut kept = InsertItems::new(alloc);
         for item in items {

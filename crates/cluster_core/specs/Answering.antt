@@ -20,7 +20,7 @@ use Rattle.txn_types.specs.declared.names.Tag.{Tag}
 use Rattle.txn_types.specs.declared.node.NodeId.TheVariants.{Shard, Router}
 use Rattle.txn_types.specs.declared.operation.Op.{Op}
 use Rattle.txn_semantics.specs.Keyed.{put}
-use Rattle.txn_semantics.specs.Meaning.{Meaning, words}
+use Rattle.txn_semantics.specs.Meaning.{Meaning, document_rules}
 use Rattle.txn_semantics.specs.Splits.{outcome}
 use Rattle.txn_semantics.specs.declared.commits.Answered.{Answered}
 use Rattle.client_cmd.specs.declared.request.Request.TheVariants as request
@@ -91,7 +91,7 @@ read_at_of (answer ∷ answers) = answer.1.read_at
 
 -- the answered statement: it was read at what its answers tell, and what it is told is one reply or refusal
 abbrev pub answered_of : Unanswered → Answered
-answered_of u = record { tag = u.tag; read_at = read_at_of u.answers; k = u.k; op = u.op; outcome = outcome words u.op (filter_map meaning_in u.answers) }
+answered_of u = record { tag = u.tag; read_at = read_at_of u.answers; k = u.k; op = u.op; outcome = outcome document_rules u.op (filter_map meaning_in u.answers) }
 
 abbrev pub answered_among : List Unanswered → List Answered
 answered_among us = map answered_of (filter (λ u. is_complete u && all_say u) us)

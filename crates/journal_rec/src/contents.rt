@@ -3,7 +3,7 @@ ghost use Rattle.std.specs.Prelude.{◌≡◌, ◌+◌, ◌-◌, [], Some, None,
 ghost use Rattle.std.specs.Str.{is_utf8};
 ghost use Rattle.bson_core.specs.declared.error.BsonErr.{BsonErr as AnyBsonErr};
 ghost use Rattle.txn_types.specs.Ids.{id_in};
-ghost use Rattle.txn_types.specs.Writes.{IsKept};
+ghost use Rattle.txn_types.specs.Writes.{HasOwnId};
 ghost use Rattle.txn_semantics.specs.Writes.{place_of, place_cmp};
 ghost use Rattle.journal_rec.specs.Errors.{Gives, from_document};
 ghost use Rattle.journal_rec.specs.Reading.{is_namespace, namespace_at, document_at, is_id_alone, write_by, content_at, write_at, is_above, next_write_at, each_write_at, writes_at};
@@ -110,7 +110,7 @@ fn is_id_alone(doc: &Doc) -> bool
 /// The write of a document, by its kind: a 1 puts it, a 0 deletes what has its id.
 fn write_of(alloc: Global, at: u64, ns: Ns, kind: u8, doc: Doc) -> Result<Write, RecErr>
     ensures write { Gives (λ w. w) result (write_by at ns kind doc (id_in doc)) }
-    ensures kept { IfOk result IsKept }
+    ensures kept { IfOk result HasOwnId }
 {
     let Some(id) = Id::in_doc(alloc, &doc)? else {
         return Err(RecErr::Field { at });
@@ -134,7 +134,7 @@ fn read_content(
     bytes: &[u8],
 ) -> Result<(Write, &[u8]), RecErr>
     ensures write { Gives (λ x. (x.0, x.1.now)) result (content_at end ns kind bytes.now) }
-    ensures kept { IfOk result (λ x. IsKept x.0) }
+    ensures kept { IfOk result (λ x. HasOwnId x.0) }
 {
     let (doc, rest) = read_document(alloc, end, bytes)?;
     let write = write_of(alloc, start_of(end, bytes), ns, kind, doc)?;
@@ -144,7 +144,7 @@ fn read_content(
 #[tactic(auto, unfolding(crate::specs::Reading::write_at))]
 fn read_write(alloc: Global, end: u64, bytes: &[u8]) -> Result<(Write, &[u8]), RecErr>
     ensures write { Gives (λ x. (x.0, x.1.now)) result (write_at end bytes.now) }
-    ensures kept { IfOk result (λ x. IsKept x.0) }
+    ensures kept { IfOk result (λ x. HasOwnId x.0) }
 {
     let (ns, rest) = read_namespace(alloc, end, bytes)?;
     let (kind, after) = read_u8(rest)?;

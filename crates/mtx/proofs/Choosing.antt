@@ -3,7 +3,7 @@ use Rattle.std.proofs.Common.{◌≡◌, ℕ, Bool, true, false, List, ◌++◌,
 use Rattle.std.specs.Prelude.{nat_eq, ◌&&◌}
 use Rattle.std.specs.List.{list_all, starts_with}
 use Rattle.std.proofs.lemmas.List.Folds.{list_all-append}
-use Rattle.outcomes.specs.Told.{Told}
+use Rattle.outcomes.specs.Told.{WhereKnown}
 use Rattle.play_script.specs.Input.{IsInput}
 use Rattle.play_script.specs.Lines.{lines_of}
 use Rattle.play_script.specs.declared.input.End.{End}
@@ -53,28 +53,28 @@ unread_text input before (status.BadJournal d i) h = absurd h
 unread_text input before status.Budget h = absurd h
 unread_text input before status.BadConf h = absurd h
 
-text_by : (input : List ℕ) (held held' : Option (List ℕ)) (s : Status) → PlayedPlain input held held' s ⊎ (IsInterrupted s × (held' ≡ held)) → Told held (λ before. Told held' (λ after. Wrote input before after s))
+text_by : (input : List ℕ) (held held' : Option (List ℕ)) (s : Status) → PlayedPlain input held held' s ⊎ (IsInterrupted s × (held' ≡ held)) → WhereKnown held (λ before. WhereKnown held' (λ after. Wrote input before after s))
 text_by input held held' s (inl p) = p.text
 text_by input held held' s (inr r) =
-    subst (λ (h : Option (List ℕ)). Told held (λ before. Told h (λ after. Wrote input before after s))) (sym r.1)
+    subst (λ (h : Option (List ℕ)). WhereKnown held (λ before. WhereKnown h (λ after. Wrote input before after s))) (sym r.1)
     (told_same held (λ before after. Wrote input before after s) (λ before. unread_text input before s r.0))
 
-pub judged_of : (told : Type 0) (left : Option (List ℕ)) (held held' : Option (List ℕ)) (s : Status) → Told left (λ input. IsPlayed told input held held' s) → Told left (λ input. AskAlone input → Judges input s ⊎ IsInterrupted s)
+pub judged_of : (told : Type 0) (left : Option (List ℕ)) (held held' : Option (List ℕ)) (s : Status) → WhereKnown left (λ input. IsPlayed told input held held' s) → WhereKnown left (λ input. AskAlone input → Judges input s ⊎ IsInterrupted s)
 judged_of told left held held' s h =
     told_then left (λ input. IsPlayed told input held held' s) (λ input. AskAlone input → Judges input s ⊎ IsInterrupted s) h
     (λ input p alone. judged_by input held held' s (plainly told input held held' s p alone))
 
-pub text_of : (told : Type 0) (left : Option (List ℕ)) (held held' : Option (List ℕ)) (s : Status) → Told left (λ input. IsPlayed told input held held' s) → Told left (λ input. AskAlone input → Told held (λ before. Told held' (λ after. Wrote input before after s)))
+pub text_of : (told : Type 0) (left : Option (List ℕ)) (held held' : Option (List ℕ)) (s : Status) → WhereKnown left (λ input. IsPlayed told input held held' s) → WhereKnown left (λ input. AskAlone input → WhereKnown held (λ before. WhereKnown held' (λ after. Wrote input before after s)))
 text_of told left held held' s h =
-    told_then left (λ input. IsPlayed told input held held' s) (λ input. AskAlone input → Told held (λ before. Told held' (λ after. Wrote input before after s))) h
+    told_then left (λ input. IsPlayed told input held held' s) (λ input. AskAlone input → WhereKnown held (λ before. WhereKnown held' (λ after. Wrote input before after s))) h
     (λ input p alone. text_by input held held' s (plainly told input held held' s p alone))
 
 -- The two ways.
 
-pub plain_way : (told : Type 0) (left : Option (List ℕ)) (bytes : List ℕ) (end : End) (held held' : Option (List ℕ)) (s : Status) → has_clients_alone (lines_of bytes) ≡ true → Told left (λ input. IsInput input bytes end)
-    → ((l : Option (List ℕ)) → Told l (λ input. IsInput input bytes end) → Told l (λ input. Judges input s ⊎ IsInterrupted s))
-    → ((l : Option (List ℕ)) → Told l (λ input. IsInput input bytes end) → Told l (λ input. Told held (λ before. Told held' (λ after. Wrote input before after s))))
-    → Told left (λ input. IsPlayed told input held held' s)
+pub plain_way : (told : Type 0) (left : Option (List ℕ)) (bytes : List ℕ) (end : End) (held held' : Option (List ℕ)) (s : Status) → has_clients_alone (lines_of bytes) ≡ true → WhereKnown left (λ input. IsInput input bytes end)
+    → ((l : Option (List ℕ)) → WhereKnown l (λ input. IsInput input bytes end) → WhereKnown l (λ input. Judges input s ⊎ IsInterrupted s))
+    → ((l : Option (List ℕ)) → WhereKnown l (λ input. IsInput input bytes end) → WhereKnown l (λ input. WhereKnown held (λ before. WhereKnown held' (λ after. Wrote input before after s))))
+    → WhereKnown left (λ input. IsPlayed told input held held' s)
 plain_way told None bytes end held held' s alone is judged text = tt
 plain_way told (Some input) bytes end held held' s alone is judged text =
     inl (record {
@@ -84,8 +84,8 @@ plain_way told (Some input) bytes end held held' s alone is judged text =
       played = subst (λ (b : Bool). PlayedBy b told input (lines_of (bytes_played bytes end)) held held' s) (sym alone) (record { judged = judged (Some input) is; text = text (Some input) is });
     })
 
-pub cluster_way : (told : Type 0) (left : Option (List ℕ)) (bytes : List ℕ) (end : End) (held held' : Option (List ℕ)) (s : Status) (ending : Ending) → has_clients_alone (lines_of bytes) ≡ false → Told left (λ input. IsInput input bytes end)
-    → s ≡ status_of ending → Ended told (lines_of (bytes_played bytes end)) held held' ending → Told left (λ input. IsPlayed told input held held' s)
+pub cluster_way : (told : Type 0) (left : Option (List ℕ)) (bytes : List ℕ) (end : End) (held held' : Option (List ℕ)) (s : Status) (ending : Ending) → has_clients_alone (lines_of bytes) ≡ false → WhereKnown left (λ input. IsInput input bytes end)
+    → s ≡ status_of ending → Ended told (lines_of (bytes_played bytes end)) held held' ending → WhereKnown left (λ input. IsPlayed told input held held' s)
 cluster_way told None bytes end held held' s ending more is same ended = tt
 cluster_way told (Some input) bytes end held held' s ending more is same ended =
     inl (record {
@@ -96,7 +96,7 @@ cluster_way told (Some input) bytes end held held' s ending more is same ended =
     })
 
 -- what was read has another line, so the input has
-pub not_alone : (left : Option (List ℕ)) (bytes : List ℕ) (end : End) (P : List ℕ → Type 0) → Told left (λ input. IsInput input bytes end) → has_clients_alone (lines_of bytes) ≡ false → Told left (λ input. AskAlone input → P input)
+pub not_alone : (left : Option (List ℕ)) (bytes : List ℕ) (end : End) (P : List ℕ → Type 0) → WhereKnown left (λ input. IsInput input bytes end) → has_clients_alone (lines_of bytes) ≡ false → WhereKnown left (λ input. AskAlone input → P input)
 not_alone left bytes end P told more =
     told_then left (λ input. IsInput input bytes end) (λ input. AskAlone input → P input) told
     (λ input is alone. absurd (never (sym (alone_read input bytes end is alone) ∙ more)))

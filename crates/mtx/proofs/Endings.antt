@@ -5,7 +5,7 @@ use Rattle.std.proofs.lemmas.Bool.{eqb-true}
 use Rattle.std.proofs.lemmas.List.Folds.{list_all-append}
 use Rattle.std.proofs.lemmas.List.{append-nil, length-take, take-append-le, take-append-drop, take_all, get_or_append_left}
 use Rattle.std.proofs.lemmas.Option.{slice_get_within, slice_get-get_or, get_or_from_slice_get}
-use Rattle.outcomes.specs.Told.{Told}
+use Rattle.outcomes.specs.Told.{WhereKnown}
 use Rattle.outside_core.specs.Bytes.{Went, WentInPart}
 use Rattle.outside_core.proofs.Steps.{went_more}
 use Rattle.txn_semantics.specs.declared.commits.Entry.{Entry}
@@ -23,19 +23,19 @@ use Rattle.mtx.proofs.Progress.{all_ask-length, there_at}
 use Rattle.mtx.proofs.Rights.{right_throughout}
 
 -- what is told of a sink that took these bytes
-pub told_went : (held held' : Option (List ℕ)) (P : List ℕ → List ℕ → Type 0) (text : List ℕ) → Went held held' text → ((before : List ℕ) → P before (before ++ text)) → Told held (λ before. Told held' (λ after. P before after))
+pub told_went : (held held' : Option (List ℕ)) (P : List ℕ → List ℕ → Type 0) (text : List ℕ) → Went held held' text → ((before : List ℕ) → P before (before ++ text)) → WhereKnown held (λ before. WhereKnown held' (λ after. P before after))
 told_went None held' P text w f = tt
-told_went (Some before) held' P text w f = subst (λ (h : Option (List ℕ)). Told h (λ after. P before after)) (sym w) (f before)
+told_went (Some before) held' P text w f = subst (λ (h : Option (List ℕ)). WhereKnown h (λ after. P before after)) (sym w) (f before)
 
-pub told_same : (held : Option (List ℕ)) (P : List ℕ → List ℕ → Type 0) → ((before : List ℕ) → P before before) → Told held (λ before. Told held (λ after. P before after))
+pub told_same : (held : Option (List ℕ)) (P : List ℕ → List ℕ → Type 0) → ((before : List ℕ) → P before before) → WhereKnown held (λ before. WhereKnown held (λ after. P before after))
 told_same None P f = tt
 told_same (Some before) P f = f before
 
-pub told_then : (told : Option (List ℕ)) (P Q : List ℕ → Type 0) → Told told P → ((x : List ℕ) → P x → Q x) → Told told Q
+pub told_then : (told : Option (List ℕ)) (P Q : List ℕ → Type 0) → WhereKnown told P → ((x : List ℕ) → P x → Q x) → WhereKnown told Q
 told_then None P Q p f = tt
 told_then (Some x) P Q p f = f x p
 
-pub told_all : (told : Option (List ℕ)) (Q : List ℕ → Type 0) → ((x : List ℕ) → Q x) → Told told Q
+pub told_all : (told : Option (List ℕ)) (Q : List ℕ → Type 0) → ((x : List ℕ) → Q x) → WhereKnown told Q
 told_all None Q f = tt
 told_all (Some x) Q f = f x
 
@@ -193,7 +193,7 @@ entries_are asked entries same =
 
 -- the replies to all lines and the list of commits
 pub played_text : (input bytes : List ℕ) (lines : ℕ) (desk : Desk) (held held1 held2 : Option (List ℕ)) → IsInput input bytes Whole → PlayedAll bytes lines desk held held1 → Went held1 held2 (dump desk.server.entries.items)
-    → Told held (λ before. Told held2 (λ after. Played input before after))
+    → WhereKnown held (λ before. WhereKnown held2 (λ after. Played input before after))
 played_text input bytes lines desk held held1 held2 is p w =
     let entries : desk.server.entries.items ≡ (behind (length p.asked) p.asked).server.entries = entries_are p.asked desk.server.entries.items p.state.server.entries in
     let all = answers first_state p.asked in
@@ -210,7 +210,7 @@ cut_whole before all front rest whole is = ap (λ (t : List ℕ). t ++ rest) (sy
 
 -- the replies to all lines and a front of the list of commits
 pub cut_dump : (input bytes : List ℕ) (lines : ℕ) (desk : Desk) (held held1 held2 : Option (List ℕ)) → IsInput input bytes Whole → PlayedAll bytes lines desk held held1 → WentInPart held1 held2 (dump desk.server.entries.items)
-    → Told held (λ before. Told held2 (λ after. CutShort input before after))
+    → WhereKnown held (λ before. WhereKnown held2 (λ after. CutShort input before after))
 cut_dump input bytes lines desk held held1 held2 is p w =
     let entries : desk.server.entries.items ≡ (behind (length p.asked) p.asked).server.entries = entries_are p.asked desk.server.entries.items p.state.server.entries in
     let all = answers first_state p.asked in
@@ -226,58 +226,58 @@ cut_dump input bytes lines desk held held1 held2 is p w =
     })
 
 -- what was read, under other names
-pub told_input : (left : Option (List ℕ)) (bytes bytes' : List ℕ) (end end' : End) → bytes' ≡ bytes → end ≡ end' → Told left (λ input. IsInput input bytes end) → Told left (λ input. IsInput input bytes' end')
+pub told_input : (left : Option (List ℕ)) (bytes bytes' : List ℕ) (end end' : End) → bytes' ≡ bytes → end ≡ end' → WhereKnown left (λ input. IsInput input bytes end) → WhereKnown left (λ input. IsInput input bytes' end')
 told_input left bytes bytes' end end' same same' told =
-    subst (λ (e : End). Told left (λ input. IsInput input bytes' e)) same' (subst (λ (b : List ℕ). Told left (λ input. IsInput input b end)) (sym same) told)
+    subst (λ (e : End). WhereKnown left (λ input. IsInput input bytes' e)) same' (subst (λ (b : List ℕ). WhereKnown left (λ input. IsInput input b end)) (sym same) told)
 
-pub bad_judged : (left : Option (List ℕ)) (number : ℕ) (bytes : List ℕ) (end : End) (held held' : Option (List ℕ)) → Told left (λ input. IsInput input bytes end) → length (lines_of bytes) ≤ 10000000 → PlayedUpTo number bytes held held'
-    → Told left (λ input. FirstBadLine number input ⊎ ⊥)
+pub bad_judged : (left : Option (List ℕ)) (number : ℕ) (bytes : List ℕ) (end : End) (held held' : Option (List ℕ)) → WhereKnown left (λ input. IsInput input bytes end) → length (lines_of bytes) ≤ 10000000 → PlayedUpTo number bytes held held'
+    → WhereKnown left (λ input. FirstBadLine number input ⊎ ⊥)
 bad_judged left number bytes end held held' told few p = told_then left (λ input. IsInput input bytes end) (λ input. FirstBadLine number input ⊎ ⊥) told (λ input is. inl (bad_in_input number input bytes end held held' is few p))
 
-pub bad_told : (left : Option (List ℕ)) (number : ℕ) (bytes : List ℕ) (end : End) (held held' : Option (List ℕ)) → Told left (λ input. IsInput input bytes end) → PlayedUpTo number bytes held held'
-    → Told left (λ input. Told held (λ before. Told held' (λ after. AnsweredFirst (number - 1) input before after)))
+pub bad_told : (left : Option (List ℕ)) (number : ℕ) (bytes : List ℕ) (end : End) (held held' : Option (List ℕ)) → WhereKnown left (λ input. IsInput input bytes end) → PlayedUpTo number bytes held held'
+    → WhereKnown left (λ input. WhereKnown held (λ before. WhereKnown held' (λ after. AnsweredFirst (number - 1) input before after)))
 bad_told left number bytes end held held' told p =
-    told_then left (λ input. IsInput input bytes end) (λ input. Told held (λ before. Told held' (λ after. AnsweredFirst (number - 1) input before after))) told
+    told_then left (λ input. IsInput input bytes end) (λ input. WhereKnown held (λ before. WhereKnown held' (λ after. AnsweredFirst (number - 1) input before after))) told
     (λ input is. told_went held held' (λ before after. AnsweredFirst (number - 1) input before after) (answers first_state p.asked) p.text (λ before. bad_text number input bytes end held held' is p before))
 
-pub cut_told : (left : Option (List ℕ)) (bytes : List ℕ) (end : End) (held held' : Option (List ℕ)) → Told left (λ input. IsInput input bytes end) → PlayedInPart bytes held held'
-    → Told left (λ input. Told held (λ before. Told held' (λ after. CutShort input before after)))
+pub cut_told : (left : Option (List ℕ)) (bytes : List ℕ) (end : End) (held held' : Option (List ℕ)) → WhereKnown left (λ input. IsInput input bytes end) → PlayedInPart bytes held held'
+    → WhereKnown left (λ input. WhereKnown held (λ before. WhereKnown held' (λ after. CutShort input before after)))
 cut_told left bytes end held held' told p =
-    told_then left (λ input. IsInput input bytes end) (λ input. Told held (λ before. Told held' (λ after. CutShort input before after))) told
+    told_then left (λ input. IsInput input bytes end) (λ input. WhereKnown held (λ before. WhereKnown held' (λ after. CutShort input before after))) told
     (λ input is. told_went held held' (λ before after. CutShort input before after) (take p.text.0 (answers first_state p.asked)) p.text.2 (λ before. cut_text input bytes end held held' is p before))
 
-pub long_judged : (left : Option (List ℕ)) (bytes : List ℕ) (lines : ℕ) (desk : Desk) (held held' : Option (List ℕ)) → Told left (λ input. IsInput input bytes LongLine) → PlayedAll bytes lines desk held held'
-    → Told left (λ input. FirstBadLine (lines + 1) input ⊎ ⊥)
+pub long_judged : (left : Option (List ℕ)) (bytes : List ℕ) (lines : ℕ) (desk : Desk) (held held' : Option (List ℕ)) → WhereKnown left (λ input. IsInput input bytes LongLine) → PlayedAll bytes lines desk held held'
+    → WhereKnown left (λ input. FirstBadLine (lines + 1) input ⊎ ⊥)
 long_judged left bytes lines desk held held' told p = told_then left (λ input. IsInput input bytes LongLine) (λ input. FirstBadLine (lines + 1) input ⊎ ⊥) told (λ input is. inl (long_is_bad input bytes lines desk held held' is p))
 
-pub long_told : (left : Option (List ℕ)) (bytes : List ℕ) (lines : ℕ) (desk : Desk) (held held' : Option (List ℕ)) → Told left (λ input. IsInput input bytes LongLine) → PlayedAll bytes lines desk held held'
-    → Told left (λ input. Told held (λ before. Told held' (λ after. AnsweredFirst (lines + 1 - 1) input before after)))
+pub long_told : (left : Option (List ℕ)) (bytes : List ℕ) (lines : ℕ) (desk : Desk) (held held' : Option (List ℕ)) → WhereKnown left (λ input. IsInput input bytes LongLine) → PlayedAll bytes lines desk held held'
+    → WhereKnown left (λ input. WhereKnown held (λ before. WhereKnown held' (λ after. AnsweredFirst (lines + 1 - 1) input before after)))
 long_told left bytes lines desk held held' told p =
-    told_then left (λ input. IsInput input bytes LongLine) (λ input. Told held (λ before. Told held' (λ after. AnsweredFirst (lines + 1 - 1) input before after))) told
+    told_then left (λ input. IsInput input bytes LongLine) (λ input. WhereKnown held (λ before. WhereKnown held' (λ after. AnsweredFirst (lines + 1 - 1) input before after))) told
     (λ input is. told_went held held' (λ before after. AnsweredFirst (lines + 1 - 1) input before after) (answers first_state p.asked) p.text (λ before. all_text (lines + 1 - 1) input bytes LongLine lines desk held held' is p (omega arith) before))
 
-pub many_judged : (left : Option (List ℕ)) (bytes : List ℕ) (lines : ℕ) (desk : Desk) (held held' : Option (List ℕ)) → Told left (λ input. IsInput input bytes ManyLines) → PlayedAll bytes lines desk held held'
-    → Told left (λ input. IsOverrun input ⊎ ⊥)
+pub many_judged : (left : Option (List ℕ)) (bytes : List ℕ) (lines : ℕ) (desk : Desk) (held held' : Option (List ℕ)) → WhereKnown left (λ input. IsInput input bytes ManyLines) → PlayedAll bytes lines desk held held'
+    → WhereKnown left (λ input. IsOverrun input ⊎ ⊥)
 many_judged left bytes lines desk held held' told p = told_then left (λ input. IsInput input bytes ManyLines) (λ input. IsOverrun input ⊎ ⊥) told (λ input is. inl (many_is_overrun input bytes lines desk held held' is p))
 
-pub many_told : (left : Option (List ℕ)) (bytes : List ℕ) (lines : ℕ) (desk : Desk) (held held' : Option (List ℕ)) → Told left (λ input. IsInput input bytes ManyLines) → PlayedAll bytes lines desk held held'
-    → Told left (λ input. Told held (λ before. Told held' (λ after. AnsweredFirst 10000000 input before after)))
+pub many_told : (left : Option (List ℕ)) (bytes : List ℕ) (lines : ℕ) (desk : Desk) (held held' : Option (List ℕ)) → WhereKnown left (λ input. IsInput input bytes ManyLines) → PlayedAll bytes lines desk held held'
+    → WhereKnown left (λ input. WhereKnown held (λ before. WhereKnown held' (λ after. AnsweredFirst 10000000 input before after)))
 many_told left bytes lines desk held held' told p =
-    told_then left (λ input. IsInput input bytes ManyLines) (λ input. Told held (λ before. Told held' (λ after. AnsweredFirst 10000000 input before after))) told
+    told_then left (λ input. IsInput input bytes ManyLines) (λ input. WhereKnown held (λ before. WhereKnown held' (λ after. AnsweredFirst 10000000 input before after))) told
     (λ input is. told_went held held' (λ before after. AnsweredFirst 10000000 input before after) (answers first_state p.asked) p.text (λ before. all_text 10000000 input bytes ManyLines lines desk held held' is p (sym is.3 ∙ sym (few_lines bytes lines desk held held' p)) before))
 
-pub whole_judged : (left : Option (List ℕ)) (bytes : List ℕ) (lines : ℕ) (desk : Desk) (held held' : Option (List ℕ)) → Told left (λ input. IsInput input bytes Whole) → PlayedAll bytes lines desk held held'
-    → Told left (λ input. IsPlayable input ⊎ ⊥)
+pub whole_judged : (left : Option (List ℕ)) (bytes : List ℕ) (lines : ℕ) (desk : Desk) (held held' : Option (List ℕ)) → WhereKnown left (λ input. IsInput input bytes Whole) → PlayedAll bytes lines desk held held'
+    → WhereKnown left (λ input. IsPlayable input ⊎ ⊥)
 whole_judged left bytes lines desk held held' told p =
     told_then left (λ input. IsInput input bytes Whole) (λ input. IsPlayable input ⊎ ⊥) told
     (λ input is. inl (record { asked = p.asked; lines = subst (λ (b : List ℕ). AllAsk (lines_of b) p.asked) is.0 p.asks; few = subst (λ (b : List ℕ). length (lines_of b) ≤ 10000000) is.0 is.1 }))
 
-pub whole_told : (left : Option (List ℕ)) (bytes : List ℕ) (lines : ℕ) (desk : Desk) (held held1 held2 : Option (List ℕ)) → Told left (λ input. IsInput input bytes Whole) → PlayedAll bytes lines desk held held1 → Went held1 held2 (dump desk.server.entries.items)
-    → Told left (λ input. Told held (λ before. Told held2 (λ after. Played input before after)))
+pub whole_told : (left : Option (List ℕ)) (bytes : List ℕ) (lines : ℕ) (desk : Desk) (held held1 held2 : Option (List ℕ)) → WhereKnown left (λ input. IsInput input bytes Whole) → PlayedAll bytes lines desk held held1 → Went held1 held2 (dump desk.server.entries.items)
+    → WhereKnown left (λ input. WhereKnown held (λ before. WhereKnown held2 (λ after. Played input before after)))
 whole_told left bytes lines desk held held1 held2 told p w =
-    told_then left (λ input. IsInput input bytes Whole) (λ input. Told held (λ before. Told held2 (λ after. Played input before after))) told (λ input is. played_text input bytes lines desk held held1 held2 is p w)
+    told_then left (λ input. IsInput input bytes Whole) (λ input. WhereKnown held (λ before. WhereKnown held2 (λ after. Played input before after))) told (λ input is. played_text input bytes lines desk held held1 held2 is p w)
 
-pub dump_told : (left : Option (List ℕ)) (bytes : List ℕ) (lines : ℕ) (desk : Desk) (held held1 held2 : Option (List ℕ)) → Told left (λ input. IsInput input bytes Whole) → PlayedAll bytes lines desk held held1 → WentInPart held1 held2 (dump desk.server.entries.items)
-    → Told left (λ input. Told held (λ before. Told held2 (λ after. CutShort input before after)))
+pub dump_told : (left : Option (List ℕ)) (bytes : List ℕ) (lines : ℕ) (desk : Desk) (held held1 held2 : Option (List ℕ)) → WhereKnown left (λ input. IsInput input bytes Whole) → PlayedAll bytes lines desk held held1 → WentInPart held1 held2 (dump desk.server.entries.items)
+    → WhereKnown left (λ input. WhereKnown held (λ before. WhereKnown held2 (λ after. CutShort input before after)))
 dump_told left bytes lines desk held held1 held2 told p w =
-    told_then left (λ input. IsInput input bytes Whole) (λ input. Told held (λ before. Told held2 (λ after. CutShort input before after))) told (λ input is. cut_dump input bytes lines desk held held1 held2 is p w)
+    told_then left (λ input. IsInput input bytes Whole) (λ input. WhereKnown held (λ before. WhereKnown held2 (λ after. CutShort input before after))) told (λ input is. cut_dump input bytes lines desk held held1 held2 is p w)

@@ -3,7 +3,7 @@ use Rattle.std.proofs.Common.{◌≡◌, ℕ, zero, suc, ◌<◌, List, [], ◌�
 use Rattle.std.proofs.lemmas.Bool.{cases_lt}
 use Rattle.std.proofs.lemmas.List.{length-take, get_or-take}
 use Rattle.std.proofs.lemmas.Option.{slice_get_within, get_or_from_slice_get}
-use Rattle.outcomes.specs.Told.{Told}
+use Rattle.outcomes.specs.Told.{WhereKnown}
 use Rattle.mtx.specs.declared.status.Status.{Status}
 use Rattle.mtx.specs.declared.status.Status.TheVariants as status
 use Rattle.play_script.specs.Lines.{lines_of, Asked, Asks}
@@ -92,8 +92,8 @@ found_in : (input : List ℕ) (r : Status) → Judges input r ⊎ IsInterrupted 
 found_in input r (inl judged) s q = inl (one_verdict input r s judged q)
 found_in input r (inr interrupted) s q = inr interrupted
 
-pub found : (left : Option (List ℕ)) (P : List ℕ → Type 0) (r : Status) → Told left (λ input. P input → Judges input r ⊎ IsInterrupted r)
-    → Told left (λ input. P input → (s : Status) → Judges input s → (r ≡ s) ⊎ IsInterrupted r)
+pub found : (left : Option (List ℕ)) (P : List ℕ → Type 0) (r : Status) → WhereKnown left (λ input. P input → Judges input r ⊎ IsInterrupted r)
+    → WhereKnown left (λ input. P input → (s : Status) → Judges input s → (r ≡ s) ⊎ IsInterrupted r)
 found None P r h = tt
 found (Some input) P r h = λ p. found_in input r (h p)
 

@@ -1,7 +1,7 @@
 -- Which way a schedule is played: over one node, where all its lines are of clients; and else over a cluster.
 use Rattle.std.specs.Prelude.{◌≡◌, ◌⊎◌, ℕ, Bool, true, false, List, Option, codes, nat_eq}
 use Rattle.std.specs.List.{list_all, starts_with}
-use Rattle.outcomes.specs.Told.{Told}
+use Rattle.outcomes.specs.Told.{WhereKnown}
 use Rattle.play_script.specs.Input.{IsInput}
 use Rattle.play_script.specs.Lines.{lines_of}
 use Rattle.play_script.specs.declared.input.End.{End}
@@ -26,7 +26,7 @@ AskAlone text = has_clients_alone (lines_of text) ≡ true
 -- of an input whose lines are all of clients: the status that it has, and what was written
 pub record PlayedPlain (input : List ℕ) (held held' : Option (List ℕ)) (s : Status) : Type 0 where
   pub judged : Judges input s ⊎ IsInterrupted s
-  pub text : Told held (λ before. Told held' (λ after. Wrote input before after s))
+  pub text : WhereKnown held (λ before. WhereKnown held' (λ after. Wrote input before after s))
 
 -- of the lines over a cluster (`told`: its disks tell what they hold)
 pub record PlayedOver (told : Type 0) (lines : List (List ℕ)) (held held' : Option (List ℕ)) (s : Status) : Type 0 where

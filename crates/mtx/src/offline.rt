@@ -1,6 +1,6 @@
 ghost use Rattle.std.specs.Prelude.{◌≡◌, ◌↔◌, ◌⊎◌, [], ℕ, List, Some, None, IsTrue, map, string_bytes, vec_len};
 ghost use Rattle.outcomes.specs.Causes.{Rose};
-ghost use Rattle.outcomes.specs.Told.{Told};
+ghost use Rattle.outcomes.specs.Told.{WhereKnown};
 ghost use Rattle.play_script.specs.Lines.{lines_of};
 ghost use Rattle.mtx.specs.Words.{word_at_fault};
 ghost use Rattle.mtx.specs.Choice.{has_clients_alone, AskAlone, IsPlayed};
@@ -37,8 +37,8 @@ fn play<S: Source, K: Sink, D: Disk>(
     disks: &mut Vec<D>,
 ) -> Status
     requires disks { vec_len disks.old ≡ 24 }
-    ensures played { Told (S.left src.old) (λ input. IsPlayed ((d : D) → IsTrue (D.tells d)) input (K.held out.old) (K.held out.new) result) }
-    ensures at_end { result ≡ Status.Ok → Told (S.left src.old) (λ input. AskAlone input → S.left src.new ≡ Some []) }
+    ensures played { WhereKnown (S.left src.old) (λ input. IsPlayed ((d : D) → IsTrue (D.tells d)) input (K.held out.old) (K.held out.new) result) }
+    ensures at_end { result ≡ Status.Ok → WhereKnown (S.left src.old) (λ input. AskAlone input → S.left src.new ≡ Some []) }
     ensures disks { vec_len disks.new ≡ 24 }
     ensures unread { IsUnread result → K.held out.new ≡ K.held out.old }
     ensures words { (index : ℕ) → result ≡ Status.BadWords index → ⊥ }
@@ -69,15 +69,15 @@ pub fn offline<S: Source, K: Sink, D: Disk>(
     // The words are refused exactly where they are no command.
     ensures bad_words { (index : ℕ) → (result ≡ Status.BadWords index) ↔ (word_at_fault (map string_bytes words.now) ≡ Some index) }
     // What was read was played, over one node where all its lines are of clients, and else over a cluster.
-    ensures played { word_at_fault (map string_bytes words.now) ≡ None → Told (S.left src.old) (λ input. IsPlayed ((d : D) → IsTrue (D.tells d)) input (K.held out.old) (K.held out.new) result) }
+    ensures played { word_at_fault (map string_bytes words.now) ≡ None → WhereKnown (S.left src.old) (λ input. IsPlayed ((d : D) → IsTrue (D.tells d)) input (K.held out.old) (K.held out.new) result) }
     // Of a schedule whose lines are all of clients: the status is the schedule's, or something outside failed, or there was no
     // memory.
-    ensures judged { word_at_fault (map string_bytes words.now) ≡ None → Told (S.left src.old) (λ input. AskAlone input → Judges input result ⊎ IsInterrupted result) }
+    ensures judged { word_at_fault (map string_bytes words.now) ≡ None → WhereKnown (S.left src.old) (λ input. AskAlone input → Judges input result ⊎ IsInterrupted result) }
     // It has one status.
-    ensures found { word_at_fault (map string_bytes words.now) ≡ None → Told (S.left src.old) (λ input. AskAlone input → (status : AnyStatus) → Judges input status → (result ≡ status) ⊎ IsInterrupted result) }
+    ensures found { word_at_fault (map string_bytes words.now) ≡ None → WhereKnown (S.left src.old) (λ input. AskAlone input → (status : AnyStatus) → Judges input status → (result ≡ status) ⊎ IsInterrupted result) }
     // What was written is the text of the lines that were played, and the answers are those of one list of commits.
-    ensures text { Told (S.left src.old) (λ input. AskAlone input → Told (K.held out.old) (λ before. Told (K.held out.new) (λ after. Wrote input before after result))) }
-    ensures at_end { result ≡ Status.Ok → Told (S.left src.old) (λ input. AskAlone input → S.left src.new ≡ Some []) }
+    ensures text { WhereKnown (S.left src.old) (λ input. AskAlone input → WhereKnown (K.held out.old) (λ before. WhereKnown (K.held out.new) (λ after. Wrote input before after result))) }
+    ensures at_end { result ≡ Status.Ok → WhereKnown (S.left src.old) (λ input. AskAlone input → S.left src.new ≡ Some []) }
     ensures disks { vec_len disks.new ≡ 24 }
     ensures unread { IsUnread result → K.held out.new ≡ K.held out.old }
     // A fault is answered only where that object's count rose in this call.

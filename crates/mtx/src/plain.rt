@@ -2,7 +2,7 @@
 ghost use Rattle.std.specs.Prelude.{◌≡◌, ◌≤◌, ◌⊎◌, ℕ, List, Option, length, OnOk, OnErr, IfOk};
 ghost use Rattle.play_script.specs.Limits.{most_lines};
 ghost use Rattle.outcomes.specs.Causes.{Rose, FailsOnly};
-ghost use Rattle.outcomes.specs.Told.{Told};
+ghost use Rattle.outcomes.specs.Told.{WhereKnown};
 ghost use Rattle.outside_core.specs.Bytes.{Went, WentInPart};
 ghost use Rattle.play_script.specs.Input.{IsInput};
 ghost use Rattle.play_script.specs.Lines.{lines_of, IsBad};
@@ -105,8 +105,8 @@ fn write_dump<K: Sink>(alloc: Global, entries: &[Entry], out: &mut K) -> Result<
 /// Plays the lines that were read of a schedule. Where more follows that can't be served, it is at fault behind them.
 pub fn play_plain<K: Sink>(alloc: Global, bytes: &[u8], end: End, out: &mut K) -> Status
     requires few { length (lines_of bytes.now) ≤ most_lines }
-    ensures judged { (left : Option (List ℕ)) → Told left (λ input. IsInput input bytes.now end) → Told left (λ input. Judges input result ⊎ IsInterrupted result) }
-    ensures text { (left : Option (List ℕ)) → Told left (λ input. IsInput input bytes.now end) → Told left (λ input. Told (K.held out.old) (λ before. Told (K.held out.new) (λ after. Wrote input before after result))) }
+    ensures judged { (left : Option (List ℕ)) → WhereKnown left (λ input. IsInput input bytes.now end) → WhereKnown left (λ input. Judges input result ⊎ IsInterrupted result) }
+    ensures text { (left : Option (List ℕ)) → WhereKnown left (λ input. IsInput input bytes.now end) → WhereKnown left (λ input. WhereKnown (K.held out.old) (λ before. WhereKnown (K.held out.new) (λ after. Wrote input before after result))) }
     ensures whole { result ≡ Status.Ok → end ≡ End.Whole }
     ensures words { (index : ℕ) → result ≡ Status.BadWords index → ⊥ }
     ensures read { result ≡ Status.ReadFault → ⊥ }

@@ -1,7 +1,7 @@
 //! Documents, writes and operations in words: `ID:A` is the document `{_id: ID, a: A}`.
 ghost use Rattle.std.specs.Prelude.{◌≡◌, IfOk, IsSome};
 ghost use Rattle.txn_types.specs.Ids.{id_in};
-ghost use Rattle.txn_types.specs.Writes.{IsKept};
+ghost use Rattle.txn_types.specs.Writes.{HasOwnId};
 
 use crate::words::{Unread, Words, int_of, sides};
 use bson_core::{Doc, Value};
@@ -29,7 +29,7 @@ fn document_of(alloc: Global, word: &str) -> Result<Doc, Unread>
 
 /// A document that is put under its own id.
 fn put(alloc: Global, ns: Ns, doc: Doc) -> Result<Write, Unread>
-    ensures { IfOk result (λ w. IsKept w) }
+    ensures { IfOk result (λ w. HasOwnId w) }
 {
     match Id::in_doc(alloc, &doc) {
         Ok(Some(id)) => Ok(Write::Put { ns, id, doc }),
@@ -40,7 +40,7 @@ fn put(alloc: Global, ns: Ns, doc: Doc) -> Result<Write, Unread>
 
 /// The write of `put COLLECTION ID:A` or `delete COLLECTION ID`.
 fn write_of(alloc: Global, words: &Words) -> Result<Write, Unread>
-    ensures { IfOk result (λ w. IsKept w) }
+    ensures { IfOk result (λ w. HasOwnId w) }
 {
     let ns = namespace_of(alloc, words.word(1))?;
     match words.word(0) {

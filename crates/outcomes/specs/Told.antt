@@ -3,6 +3,6 @@
 use Rattle.std.specs.Prelude.{Option, Some, None}
 
 -- the fact holds of what is told, where it is told
-abbrev pub Told : {X : Type 0} → Option X → (X → Type 0) → Type 0
-Told None P = Unit {0}
-Told (Some x) P = P x
+abbrev pub WhereKnown : {X : Type 0} → Option X → (X → Type 0) → Type 0
+WhereKnown None P = Unit {0}
+WhereKnown (Some x) P = P x

@@ -15,7 +15,7 @@ use Rattle.txn_types.specs.declared.id.Id.{Id}
 use Rattle.txn_types.specs.declared.names.Tag.{Tag}
 use Rattle.txn_semantics.specs.Keyed.{AllAbove, Rises}
 use Rattle.txn_semantics.specs.Effect.{AreKnown}
-use Rattle.txn_semantics.specs.Meaning.{words}
+use Rattle.txn_semantics.specs.Meaning.{document_rules}
 use Rattle.txn_semantics.specs.Rows.{Row, IsRising}
 use Rattle.txn_semantics.specs.Touched.{Touched, touches}
 use Rattle.txn_semantics.specs.Writes.{Place, place_cmp}
@@ -88,7 +88,7 @@ rows_rise ns ids at tag store rows r is =
     subst IsRising both.1 (rises-rows_in (seen at tag) ns (touches ids) store r)
 
 -- and have the ids of their documents
-pub rows_have_ids : (ns : List ℕ) (ids : Touched) (at : ℕ) (tag : Tag) (store : Versions) (rows : List Row) → HaveIds store → scan store ns ids at tag ≡ Ok rows → AreKnown words rows
+pub rows_have_ids : (ns : List ℕ) (ids : Touched) (at : ℕ) (tag : Tag) (store : Versions) (rows : List Row) → HaveIds store → scan store ns ids at tag ≡ Ok rows → AreKnown document_rules rows
 rows_have_ids ns ids at tag store rows has is =
     let both = unless_ok (first (held_among at tag (touched_keys store ns ids))) (rows_among at tag (touched_keys store ns ids)) rows is in
-    subst (AreKnown words) both.1 (rows_known ns ids at tag store has)
+    subst (AreKnown document_rules) both.1 (rows_known ns ids at tag store has)

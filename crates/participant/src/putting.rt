@@ -1,7 +1,7 @@
 ghost use Rattle.std.specs.Prelude.{◌≡◌, None, Some, false, map, IsSome, OnOk, OnErr};
 ghost use Rattle.txn_types.specs.BySession.{entry_of};
 ghost use Rattle.txn_types.specs.Order.{same_tag, lsid_cmp};
-ghost use Rattle.txn_types.specs.Writes.{AllKept};
+ghost use Rattle.txn_types.specs.Writes.{AllHaveOwnIds};
 ghost use Rattle.txn_semantics.specs.Keyed.{put, taken_out};
 ghost use Rattle.txn_semantics.specs.Writes.{place_of};
 ghost use Rattle.session_table.specs.Sessions.{session_of, with_session};
@@ -35,7 +35,7 @@ fn put_new_session(
     writes: &[Write],
 ) -> Result<(), PartErr>
     requires free { AreFree m.now.tag store.old writes.now }
-    requires kept { AllKept writes.now }
+    requires kept { AllHaveOwnIds writes.now }
     requires new { session_of sessions.old m.now.lsid ≡ None }
     ensures sessions { OnOk result (sessions.new ≡ with_session sessions.old m.now.lsid (live_session m.now)) }
     ensures store { OnOk result (store.new ≡ with_writes m.now.tag store.old writes.now) }
@@ -60,7 +60,7 @@ fn put_session(
     writes: &[Write],
 ) -> Result<(), PartErr>
     requires free { AreFree m.now.tag store.old writes.now }
-    requires kept { AllKept writes.now }
+    requires kept { AllHaveOwnIds writes.now }
     ensures sessions { OnOk result (sessions.new ≡ with_session sessions.old m.now.lsid (live_session m.now)) }
     ensures store { OnOk result (store.new ≡ with_writes m.now.tag store.old writes.now) }
     ensures old_sessions { OnErr result (sessions.new ≡ sessions.old) }
@@ -84,7 +84,7 @@ fn put_first(
     writes: &[Write],
 ) -> Result<(), PartErr>
     requires free { AreFree m.now.tag store.old writes.now }
-    requires kept { AllKept writes.now }
+    requires kept { AllHaveOwnIds writes.now }
     requires none { entry_of m.now.lsid lives.old ≡ None }
     ensures sessions { OnOk result (sessions.new ≡ with_session sessions.old m.now.lsid (live_session m.now)) }
     ensures lives { OnOk result (lives.new ≡ put lsid_cmp m.now.lsid live lives.old) }
@@ -136,7 +136,7 @@ fn put_again(
     writes: &[Write],
 ) -> Result<(), PartErr>
     requires free { AreFree m.now.tag store.old writes.now }
-    requires kept { AllKept writes.now }
+    requires kept { AllHaveOwnIds writes.now }
     requires there { IsSome (session_of sessions.old m.now.lsid) }
     requires some { IsSome (entry_of m.now.lsid lives.old) }
     requires keys { (o : Open) → entry_of m.now.lsid lives.old ≡ Some o → map place_of o.writes ≡ keys_of o.tag store.old }
@@ -166,7 +166,7 @@ pub fn put_all(
     writes: &[Write],
 ) -> Result<(), PartErr>
     requires free { AreFree m.now.tag store.old writes.now }
-    requires kept { AllKept writes.now }
+    requires kept { AllHaveOwnIds writes.now }
     requires there { IsSome (entry_of m.now.lsid lives.old) → IsSome (session_of sessions.old m.now.lsid) }
     requires keys { (o : Open) → entry_of m.now.lsid lives.old ≡ Some o → map place_of o.writes ≡ keys_of o.tag store.old }
     ensures sessions { OnOk result (sessions.new ≡ with_session sessions.old m.now.lsid (live_session m.now)) }

@@ -2,7 +2,7 @@ ghost use Rattle.std.specs.Prelude.{◌≡◌, ◌≤◌, ◌⊎◌, nat_eq, nat
 ghost use Rattle.std.specs.Option.{option_copied};
 ghost use Rattle.txn_types.specs.Clock.{last_time, next_time};
 ghost use Rattle.txn_types.specs.Order.{same_tag};
-ghost use Rattle.txn_types.specs.Writes.{AllKept};
+ghost use Rattle.txn_types.specs.Writes.{AllHaveOwnIds};
 ghost use Rattle.txn_semantics.specs.Meaning.{ns_of};
 ghost use Rattle.txn_semantics.specs.Touched.{touched};
 ghost use Rattle.txn_semantics.specs.Writes.{place_of};
@@ -447,7 +447,7 @@ impl Participant {
         requires once { elsewhere self.old m.now.lsid m.now.tag ≡ false }
         requires left { CanLeave (session self.old m.now.lsid) }
         requires free { AreFree m.now.tag self.old.store writes.now }
-        requires kept { AllKept writes.now }
+        requires kept { AllHaveOwnIds writes.now }
         requires tag { entry.tag ≡ m.now.tag }
         requires whole { entry.writes ≡ writes_with (mine self.old m.now) writes.now }
         ensures ok { OnOk result (self.new ≡ with_open (made_room self.old m.now (mine self.old m.now)) m.now entry writes.now) }

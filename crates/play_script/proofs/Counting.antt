@@ -5,7 +5,7 @@ use Rattle.std.proofs.lemmas.List.{append-nil, take-append-drop, take_more, leng
 use Rattle.std.proofs.lemmas.Bool.{ne_eqb}
 use Rattle.std.proofs.lemmas.List.Folds.{list_all-append}
 use Rattle.std.proofs.lemmas.List.Elements.{All-nil, All-push}
-use Rattle.outcomes.specs.Told.{Told}
+use Rattle.outcomes.specs.Told.{WhereKnown}
 use Rattle.outside_core.specs.declared.source.SourceErr.{SourceErr}
 use Rattle.outside_core.specs.Bytes.{Came, ReadsBytes}
 use Rattle.outside_core.proofs.Steps.{Reading, came_all, reading_end, reading_fresh, reading_more}
@@ -161,13 +161,13 @@ few_stopped bytes front Whole stopped stops = absurd (stops refl)
 few_stopped bytes front LongLine stopped stops = omega (arith, stopped.3)
 few_stopped bytes front ManyLines stopped stops = omega (arith, stopped.3)
 
-stopped_told : (left left' : Option (List ℕ)) (bytes front : List ℕ) (end : End) → Came left left' bytes → IsInput bytes front end → end ≢ Whole → Told left (λ input. IsInput input front end)
+stopped_told : (left left' : Option (List ℕ)) (bytes front : List ℕ) (end : End) → Came left left' bytes → IsInput bytes front end → end ≢ Whole → WhereKnown left (λ input. IsInput input front end)
 stopped_told None left' bytes front end came stopped stops = tt
 stopped_told (Some left) left' bytes front end came stopped stops = subst (λ input. IsInput input front end) (sym came.2) (stopped_more bytes came.0 front end stopped stops)
 
-pub told_stop : {a b : Option (List ℕ)} {mid : List ℕ} (c : Option (List ℕ)) (bytes : List ℕ) (n : ℕ) (front kept : List ℕ) (end : End) → Reading a b [] mid → ReadsBytes {E = SourceErr} 65536 b c mid bytes (Ok n) → IsInput bytes front end → end ≢ Whole → kept ≡ front → Told a (λ input. IsInput input kept end)
+pub told_stop : {a b : Option (List ℕ)} {mid : List ℕ} (c : Option (List ℕ)) (bytes : List ℕ) (n : ℕ) (front kept : List ℕ) (end : End) → Reading a b [] mid → ReadsBytes {E = SourceErr} 65536 b c mid bytes (Ok n) → IsInput bytes front end → end ≢ Whole → kept ≡ front → WhereKnown a (λ input. IsInput input kept end)
 told_stop {a} {b} {mid} c bytes n front kept end reading reads stopped stops same =
-    subst (λ k. Told a (λ input. IsInput input k end)) (sym same) (stopped_told a c bytes front end (reading_fresh (reading_more 65536 n reading reads)) stopped stops)
+    subst (λ k. WhereKnown a (λ input. IsInput input k end)) (sym same) (stopped_told a c bytes front end (reading_fresh (reading_more 65536 n reading reads)) stopped stops)
 
 -- a line that has not ended is one more
 one_more : (front last : List ℕ) → AreWhole front → Lacks 10 last → 0 < length last → lines_of (front ++ last) ≡ lines_of front ++ last ∷ []
@@ -192,11 +192,11 @@ pub short_lines : (bytes : List ℕ) (count : LineCount) → Counted bytes count
 short_lines bytes count c = subst AreShort (sym c.parts) (short_lines_in c.front c.last c.whole c.unended c.shorts (omega (arith, c.tail)))
 
 -- all that came by the source's end is the input
-whole_told : (left left' : Option (List ℕ)) (bytes : List ℕ) → Came left left' bytes → IfSome left' (λ l. l ≡ []) → length (lines_of bytes) ≤ 10000000 → Told left (λ input. IsInput input bytes Whole)
+whole_told : (left left' : Option (List ℕ)) (bytes : List ℕ) → Came left left' bytes → IfSome left' (λ l. l ≡ []) → length (lines_of bytes) ≤ 10000000 → WhereKnown left (λ input. IsInput input bytes Whole)
 whole_told None left' bytes came ends few = tt
 whole_told (Some left) left' bytes came ends few = (sym (came_all (Some left) left' bytes came ends), few)
 
-pub told_whole : {a b : Option (List ℕ)} {mid : List ℕ} (c : Option (List ℕ)) (bytes : List ℕ) (n : ℕ) (count : LineCount) → Reading a b [] mid → ReadsBytes {E = SourceErr} 65536 b c mid bytes (Ok n) → n ≡ 0 → Counted mid count → Told a (λ input. IsInput input bytes Whole)
+pub told_whole : {a b : Option (List ℕ)} {mid : List ℕ} (c : Option (List ℕ)) (bytes : List ℕ) (n : ℕ) (count : LineCount) → Reading a b [] mid → ReadsBytes {E = SourceErr} 65536 b c mid bytes (Ok n) → n ≡ 0 → Counted mid count → WhereKnown a (λ input. IsInput input bytes Whole)
 told_whole {a} {b} {mid} c bytes n count reading reads zero counted =
     let ends = reading_end b c mid bytes 65536 n reads zero (omega arith) in
     whole_told a c bytes (reading_fresh (reading_more 65536 n reading reads)) ends.2 (subst (λ l. length (lines_of l) ≤ 10000000) (sym ends.0) (few_lines mid count counted))

@@ -1,7 +1,7 @@
 ghost use Rattle.std.specs.Prelude.{◌≡◌, ◌≢◌, ◌≤◌, length, take, IfOk, MatchOption};
 ghost use Rattle.play_script.specs.Limits.{most_lines};
 ghost use Rattle.outcomes.specs.Causes.{FailsOnly};
-ghost use Rattle.outcomes.specs.Told.{Told};
+ghost use Rattle.outcomes.specs.Told.{WhereKnown};
 ghost use Rattle.play_script.specs.Lines.{lines_of};
 ghost use Rattle.play_script.specs.Input.{IsInput, IsAtEnd};
 ghost use Rattle.play_script.specs.Counting.{AreShort, Counted};
@@ -72,8 +72,8 @@ impl LineCount {
 /// 100,000,001 of a line. It goes through the bytes once.
 pub fn read_input<S: Source>(alloc: Global, src: &mut S) -> Result<Input, SourceErr>
     ensures faults { FailsOnly SourceErr.Failed (S.fault_count src.old) (S.fault_count src.new) result }
-    ensures read { IfOk result (λ i. Told (S.left src.old) (λ input. IsInput input i.bytes.items i.end)) }
-    ensures at_end { IfOk result (λ i. Told (S.left src.old) (λ input. IsAtEnd (S.left src.new) i.end)) }
+    ensures read { IfOk result (λ i. WhereKnown (S.left src.old) (λ input. IsInput input i.bytes.items i.end)) }
+    ensures at_end { IfOk result (λ i. WhereKnown (S.left src.old) (λ input. IsAtEnd (S.left src.new) i.end)) }
     ensures few { IfOk result (λ i. length (lines_of i.bytes.items) ≤ most_lines) }
     ensures short { IfOk result (λ i. AreShort i.bytes.items) }
 {

@@ -15,7 +15,7 @@ use Rattle.txn_types.specs.declared.operation.OpErr.{OpErr}
 use Rattle.txn_types.proofs.Orders.{id_total, id_exact}
 use Rattle.txn_semantics.specs.Effect.{AreKnown, Done, Doing, nothing, both, with_done, after, each, matching, met_by, without}
 use Rattle.txn_semantics.specs.Filters.{matches}
-use Rattle.txn_semantics.specs.Meaning.{words}
+use Rattle.txn_semantics.specs.Meaning.{document_rules}
 use Rattle.txn_semantics.specs.Rows.{Row, IsRising, put_row, delete_row, laid_over, holds_id}
 use Rattle.txn_semantics.proofs.Laying.{cmp_self}
 use Rattle.txn_semantics.proofs.Parts.{AllAbove, rising_put}
@@ -103,7 +103,7 @@ kept_rises f [] rising = tt
 kept_rises f (row ∷ rows) rising = kept_rises_case f row rows (f row.1) (kept_above f row.0 rows rising.0) (kept_rises f rows rising.1)
 
 -- nothing was done yet, and one thing after another
-pub follows_start : (content : Document → Option Document) (left : List Row → List Row → List Row) (before : List (Id × Held)) → ((rows : List Row) → left rows [] ≡ rows) → IsRising before → AreKnown words (rows_in before) → Follows content left before nothing before
+pub follows_start : (content : Document → Option Document) (left : List Row → List Row → List Row) (before : List (Id × Held)) → ((rows : List Row) → left rows [] ≡ rows) → IsRising before → AreKnown document_rules (rows_in before) → Follows content left before nothing before
 follows_start content left before idle rising known = record { rows = sym (idle (rows_in before)); written = refl; rising = rising; known = known }
 
 pub follows_more : (content : Document → Option Document) (left : List Row → List Row → List Row) (before mid after : List (Id × Held)) (a b : Done) → ((rows xs ys : List Row) → left rows (xs ++ ys) ≡ left (left rows xs) ys)
@@ -117,16 +117,16 @@ follows_more content left before mid after a b more f g = record {
 }
 
 -- a document put under an id, and a row taken away
-pub follows_put : (rows : List (Id × Held)) (met : List Row) (id : Id) (doc : Document) → IsRising rows → AreKnown words (rows_in rows) → id_in doc ≡ Some id
+pub follows_put : (rows : List (Id × Held)) (met : List Row) (id : Id) (doc : Document) → IsRising rows → AreKnown document_rules (rows_in rows) → id_in doc ≡ Some id
     → Follows put_content laid_over rows (record { met = met; changed = (id, doc) ∷ [] }) (put_row id (Own doc) rows)
 follows_put rows met id doc rising known has = record {
   rows = kept_put doc_in id (Own doc) doc rows refl rising;
   written = kept_put written_in id (Own doc) (Some doc) rows refl rising;
   rising = rising_put id (Own doc) rows rising;
-  known = subst (AreKnown words) (sym (kept_put doc_in id (Own doc) doc rows refl rising)) (known_put words id doc (rows_in rows) has known);
+  known = subst (AreKnown document_rules) (sym (kept_put doc_in id (Own doc) doc rows refl rising)) (known_put document_rules id doc (rows_in rows) has known);
 }
 
-pub follows_drop : (rows : List (Id × Held)) (met : List Row) (id : Id) (doc : Document) → IsRising rows → AreKnown words (rows_in rows)
+pub follows_drop : (rows : List (Id × Held)) (met : List Row) (id : Id) (doc : Document) → IsRising rows → AreKnown document_rules (rows_in rows)
     → Follows no_content without rows (record { met = met; changed = (id, doc) ∷ [] }) (put_row id Nothing rows)
 follows_drop rows met id doc rising known =
     let gone : rows_in (put_row id Nothing rows) ≡ without (rows_in rows) ((id, doc) ∷ []) = kept_gone doc_in id Nothing rows refl rising ∙ one_out (id, doc) (rows_in rows) (kept_rises doc_in rows rising) in
@@ -134,7 +134,7 @@ follows_drop rows met id doc rising known =
       rows = gone;
       written = kept_put written_in id Nothing None rows refl rising;
       rising = rising_put id Nothing rows rising;
-      known = subst (AreKnown words) (sym gone) (known_filter words (λ row. not (holds_id row.0 ((id, doc) ∷ []))) (rows_in rows) known);
+      known = subst (AreKnown document_rules) (sym gone) (known_filter document_rules (λ row. not (holds_id row.0 ((id, doc) ∷ []))) (rows_in rows) known);
     }
 
 -- a row set anew at its place
@@ -150,11 +150,11 @@ missed_match f id doc rest true h = cc
 missed_match f id doc rest false h = refl
 
 missed_case : (f : Filter) (one : Id × Held) (rest : List (Id × Held)) (o : Option Document) → doc_in one.1 ≡ o → asked f o ≡ None
-    → matching words f (rows_in (one ∷ rest)) ≡ matching words f (rows_in rest)
-missed_case f one rest None is h = ap (matching words f) (kept_none doc_in one.0 one.1 rest is)
-missed_case f one rest (Some doc) is h = ap (matching words f) (kept_some doc_in one.0 one.1 doc rest is) ∙ missed_match f one.0 doc (matching words f (rows_in rest)) (matches f doc) h
+    → matching document_rules f (rows_in (one ∷ rest)) ≡ matching document_rules f (rows_in rest)
+missed_case f one rest None is h = ap (matching document_rules f) (kept_none doc_in one.0 one.1 rest is)
+missed_case f one rest (Some doc) is h = ap (matching document_rules f) (kept_some doc_in one.0 one.1 doc rest is) ∙ missed_match f one.0 doc (matching document_rules f (rows_in rest)) (matches f doc) h
 
-pub missed : (f : Filter) (one : Id × Held) (rest : List (Id × Held)) → wanted_in f one.1 ≡ None → matching words f (rows_in (one ∷ rest)) ≡ matching words f (rows_in rest)
+pub missed : (f : Filter) (one : Id × Held) (rest : List (Id × Held)) → wanted_in f one.1 ≡ None → matching document_rules f (rows_in (one ∷ rest)) ≡ matching document_rules f (rows_in rest)
 missed f one rest h = missed_case f one rest (doc_in one.1) refl h
 
 found_match : (id : Id) (d doc : Document) (rest : List Row) (m : Bool) → (if m then Some d else None) ≡ Some doc → cond m ((id, d) ∷ rest) rest ≡ (id, doc) ∷ rest
@@ -162,11 +162,11 @@ found_match id d doc rest true h = let same : d ≡ doc = cc in ap (λ (x : Docu
 found_match id d doc rest false h = cc
 
 found_case : (f : Filter) (one : Id × Held) (rest : List (Id × Held)) (doc : Document) (o : Option Document) → doc_in one.1 ≡ o → asked f o ≡ Some doc
-    → matching words f (rows_in (one ∷ rest)) ≡ (one.0, doc) ∷ matching words f (rows_in rest)
+    → matching document_rules f (rows_in (one ∷ rest)) ≡ (one.0, doc) ∷ matching document_rules f (rows_in rest)
 found_case f one rest doc None is h = cc
-found_case f one rest doc (Some d) is h = ap (matching words f) (kept_some doc_in one.0 one.1 d rest is) ∙ found_match one.0 d doc (matching words f (rows_in rest)) (matches f d) h
+found_case f one rest doc (Some d) is h = ap (matching document_rules f) (kept_some doc_in one.0 one.1 d rest is) ∙ found_match one.0 d doc (matching document_rules f (rows_in rest)) (matches f d) h
 
-pub found : (f : Filter) (one : Id × Held) (rest : List (Id × Held)) (doc : Document) → wanted_in f one.1 ≡ Some doc → matching words f (rows_in (one ∷ rest)) ≡ (one.0, doc) ∷ matching words f (rows_in rest)
+pub found : (f : Filter) (one : Id × Held) (rest : List (Id × Held)) (doc : Document) → wanted_in f one.1 ≡ Some doc → matching document_rules f (rows_in (one ∷ rest)) ≡ (one.0, doc) ∷ matching document_rules f (rows_in rest)
 found f one rest doc h = found_case f one rest doc (doc_in one.1) refl h
 
 doc_match : (d doc : Document) (m : Bool) → (if m then Some d else None) ≡ Some doc → d ≡ doc
@@ -184,18 +184,18 @@ has_doc f held doc h = doc_case f doc (doc_in held) h
 -- an item on its way through the rows
 pub record Walk (act : Row → Doing) (f : Filter) (many : Bool) (content : Document → Option Document) (left : List Row → List Row → List Row) (before now : List (Id × Held)) (i n changed : ℕ) : Type 0 where
   pub so_far : Done
-  pub doing : with_done so_far (each act (met_by words f many (rows_in (drop i now)))) ≡ each act (met_by words f many (rows_in before))
+  pub doing : with_done so_far (each act (met_by document_rules f many (rows_in (drop i now)))) ≡ each act (met_by document_rules f many (rows_in before))
   pub follows : Follows content left before so_far now
   pub met_is : n ≡ length so_far.met
   pub changed_is : changed ≡ length so_far.changed
   pub within : n ≤ i
   pub fewer : changed ≤ n
 
-pub walk_start : (act : Row → Doing) (f : Filter) (many : Bool) (content : Document → Option Document) (left : List Row → List Row → List Row) (before : List (Id × Held)) → ((rows : List Row) → left rows [] ≡ rows) → IsRising before → AreKnown words (rows_in before)
+pub walk_start : (act : Row → Doing) (f : Filter) (many : Bool) (content : Document → Option Document) (left : List Row → List Row → List Row) (before : List (Id × Held)) → ((rows : List Row) → left rows [] ≡ rows) → IsRising before → AreKnown document_rules (rows_in before)
     → Walk act f many content left before before 0 0 0
 walk_start act f many content left before idle rising known = record {
   so_far = nothing;
-  doing = with_nothing (each act (met_by words f many (rows_in before)));
+  doing = with_nothing (each act (met_by document_rules f many (rows_in before)));
   follows = follows_start content left before idle rising known;
   met_is = refl;
   changed_is = refl;
@@ -213,7 +213,7 @@ pub walk_missed : (act : Row → Doing) (f : Filter) (many : Bool) (content : Do
     → Walk act f many content left before now i n changed → i < length now → wanted_in f (get_or now i d).1 ≡ None → Walk act f many content left before now (i + 1) n changed
 walk_missed act f many content left before now i n changed d walk h none = record {
   so_far = walk.so_far;
-  doing = ap (λ xs. with_done walk.so_far (each act xs)) (sym (meets_more many (matching words f (rows_in (drop i now))) (matching words f (rows_in (drop (i + 1) now))) (ap (λ xs. matching words f (rows_in xs)) (at_place now i d h) ∙ missed f (get_or now i d) (drop (i + 1) now) none))) ∙ walk.doing;
+  doing = ap (λ xs. with_done walk.so_far (each act xs)) (sym (meets_more many (matching document_rules f (rows_in (drop i now))) (matching document_rules f (rows_in (drop (i + 1) now))) (ap (λ xs. matching document_rules f (rows_in xs)) (at_place now i d h) ∙ missed f (get_or now i d) (drop (i + 1) now) none))) ∙ walk.doing;
   follows = walk.follows;
   met_is = walk.met_is;
   changed_is = walk.changed_is;
@@ -223,12 +223,12 @@ walk_missed act f many content left before now i n changed d walk h none = recor
 
 -- a row that is met, by its meaning
 met_many : (act : Row → Doing) (f : Filter) (now : List (Id × Held)) (i : ℕ) (d : Id × Held) (doc : Document) → i < length now → wanted_in f (get_or now i d).1 ≡ Some doc
-    → each act (met_by words f true (rows_in (drop i now))) ≡ after (act ((get_or now i d).0, doc)) (λ _. each act (met_by words f true (rows_in (drop (i + 1) now))))
-met_many act f now i d doc h is = ap (each act) (ap (λ xs. matching words f (rows_in xs)) (at_place now i d h) ∙ found f (get_or now i d) (drop (i + 1) now) doc is)
+    → each act (met_by document_rules f true (rows_in (drop i now))) ≡ after (act ((get_or now i d).0, doc)) (λ _. each act (met_by document_rules f true (rows_in (drop (i + 1) now))))
+met_many act f now i d doc h is = ap (each act) (ap (λ xs. matching document_rules f (rows_in xs)) (at_place now i d h) ∙ found f (get_or now i d) (drop (i + 1) now) doc is)
 
 met_one : (act : Row → Doing) (f : Filter) (now : List (Id × Held)) (i : ℕ) (d : Id × Held) (doc : Document) → i < length now → wanted_in f (get_or now i d).1 ≡ Some doc
-    → each act (met_by words f false (rows_in (drop i now))) ≡ after (act ((get_or now i d).0, doc)) (λ _. Ok nothing)
-met_one act f now i d doc h is = ap (λ xs. each act (take 1 xs)) (ap (λ xs. matching words f (rows_in xs)) (at_place now i d h) ∙ found f (get_or now i d) (drop (i + 1) now) doc is)
+    → each act (met_by document_rules f false (rows_in (drop i now))) ≡ after (act ((get_or now i d).0, doc)) (λ _. Ok nothing)
+met_one act f now i d doc h is = ap (λ xs. each act (take 1 xs)) (ap (λ xs. matching document_rules f (rows_in xs)) (at_place now i d h) ∙ found f (get_or now i d) (drop (i + 1) now) doc is)
 
 pub walk_met : (act : Row → Doing) (f : Filter) (content : Document → Option Document) (left : List Row → List Row → List Row) (before now next : List (Id × Held)) (i n changed count : ℕ) (d : Id × Held) (doc : Document) (done : Done)
     → ((rows xs ys : List Row) → left rows (xs ++ ys) ≡ left (left rows xs) ys)
@@ -237,9 +237,9 @@ pub walk_met : (act : Row → Doing) (f : Filter) (content : Document → Option
     → Walk act f true content left before next (i + 1) (n + 1) (changed + count)
 walk_met act f content left before now next i n changed count d doc done more walk h is does follows rest one counts few = record {
   so_far = both walk.so_far done;
-  doing = sym (with_twice walk.so_far done (each act (met_by words f true (rows_in (drop (i + 1) next)))))
-      ∙ ap (λ xs. with_done walk.so_far (with_done done (each act (met_by words f true (rows_in xs))))) rest
-      ∙ ap (λ r. with_done walk.so_far (after r (λ _. each act (met_by words f true (rows_in (drop (i + 1) now)))))) (sym does)
+  doing = sym (with_twice walk.so_far done (each act (met_by document_rules f true (rows_in (drop (i + 1) next)))))
+      ∙ ap (λ xs. with_done walk.so_far (with_done done (each act (met_by document_rules f true (rows_in xs))))) rest
+      ∙ ap (λ r. with_done walk.so_far (after r (λ _. each act (met_by document_rules f true (rows_in (drop (i + 1) now)))))) (sym does)
       ∙ ap (with_done walk.so_far) (sym (met_many act f now i d doc h is)) ∙ walk.doing;
   follows = follows_more content left before now next walk.so_far done more walk.follows follows;
   met_is = omega (arith, walk.met_is, one, length-append walk.so_far.met done.met);
@@ -251,7 +251,7 @@ walk_met act f content left before now next i n changed count d doc done more wa
 -- an item for one document ends at the first that it meets
 pub record Ended (act : Row → Doing) (f : Filter) (many : Bool) (content : Document → Option Document) (left : List Row → List Row → List Row) (before after : List (Id × Held)) (n changed : ℕ) : Type 0 where
   pub done : Done
-  pub does : each act (met_by words f many (rows_in before)) ≡ Ok done
+  pub does : each act (met_by document_rules f many (rows_in before)) ≡ Ok done
   pub follows : Follows content left before done after
   pub met_is : n ≡ length done.met
   pub changed_is : changed ≡ length done.changed
@@ -270,16 +270,16 @@ walk_one act f content left before now next i n changed count d doc done more wa
 }
 
 walk_err_case : (act : Row → Doing) (f : Filter) (many : Bool) (now : List (Id × Held)) (i : ℕ) (d : Id × Held) (doc : Document) (e : OpErr) (so_far : Done) → i < length now → wanted_in f (get_or now i d).1 ≡ Some doc → act ((get_or now i d).0, doc) ≡ Err e
-    → with_done so_far (each act (met_by words f many (rows_in (drop i now)))) ≡ Err e
-walk_err_case act f true now i d doc e so_far h is does = ap (with_done so_far) (met_many act f now i d doc h is ∙ ap (λ r. after r (λ _. each act (met_by words f true (rows_in (drop (i + 1) now))))) does)
+    → with_done so_far (each act (met_by document_rules f many (rows_in (drop i now)))) ≡ Err e
+walk_err_case act f true now i d doc e so_far h is does = ap (with_done so_far) (met_many act f now i d doc h is ∙ ap (λ r. after r (λ _. each act (met_by document_rules f true (rows_in (drop (i + 1) now))))) does)
 walk_err_case act f false now i d doc e so_far h is does = ap (with_done so_far) (met_one act f now i d doc h is ∙ ap (λ r. after r (λ _. Ok nothing)) does)
 
 pub walk_err : (act : Row → Doing) (f : Filter) (many : Bool) (content : Document → Option Document) (left : List Row → List Row → List Row) (before now : List (Id × Held)) (i n changed : ℕ) (d : Id × Held) (doc : Document) (e : OpErr)
     → Walk act f many content left before now i n changed → i < length now → wanted_in f (get_or now i d).1 ≡ Some doc → act ((get_or now i d).0, doc) ≡ Err e
-    → each act (met_by words f many (rows_in before)) ≡ Err e
+    → each act (met_by document_rules f many (rows_in before)) ≡ Err e
 walk_err act f many content left before now i n changed d doc e walk h is does = sym walk.doing ∙ walk_err_case act f many now i d doc e walk.so_far h is does
 
-ended_case : (act : Row → Doing) (f : Filter) (many : Bool) (so_far : Done) → with_done so_far (each act (met_by words f many [])) ≡ Ok so_far
+ended_case : (act : Row → Doing) (f : Filter) (many : Bool) (so_far : Done) → with_done so_far (each act (met_by document_rules f many [])) ≡ Ok so_far
 ended_case act f true so_far = ap Ok (both_nothing so_far)
 ended_case act f false so_far = ap Ok (both_nothing so_far)
 
@@ -287,7 +287,7 @@ pub walk_end : (act : Row → Doing) (f : Filter) (many : Bool) (content : Docum
     → Walk act f many content left before now i n changed → length now ≤ i → Ended act f many content left before now n changed
 walk_end act f many content left before now i n changed walk h = record {
   done = walk.so_far;
-  does = sym walk.doing ∙ ap (λ xs. with_done walk.so_far (each act (met_by words f many (rows_in xs)))) (drop_all i now h) ∙ ended_case act f many walk.so_far;
+  does = sym walk.doing ∙ ap (λ xs. with_done walk.so_far (each act (met_by document_rules f many (rows_in xs)))) (drop_all i now h) ∙ ended_case act f many walk.so_far;
   follows = walk.follows;
   met_is = walk.met_is;
   changed_is = walk.changed_is;

@@ -13,7 +13,7 @@ use Rattle.txn_types.specs.declared.operation.OpReply.{OpReply}
 use Rattle.txn_types.specs.declared.operation.What.TheVariants.{Duplicate}
 use Rattle.txn_types.specs.declared.write.Write.{Write}
 use Rattle.txn_semantics.specs.Effect.{AreKnown, Done, Doing, nothing, both, with_done, after, through, insert_new, insert_step}
-use Rattle.txn_semantics.specs.Meaning.{capped, meaning_of, words}
+use Rattle.txn_semantics.specs.Meaning.{capped, meaning_of, document_rules}
 use Rattle.txn_semantics.specs.Rows.{Row, IsRising, put_row, laid_over, holds_id}
 use Rattle.query_eval.specs.Acts.{Acted, Follows, Refuses, put_content}
 use Rattle.query_eval.specs.Held.{rows_in, all_written, write_of}
@@ -28,12 +28,12 @@ use Rattle.query_eval.proofs.Acting.{with_twice, with_nothing, both_nothing, fol
 insert_by : InsertItem → List Row → Option Id → Doing
 insert_by item rows o = elim o [ None ↦ Ok nothing | Some id ↦ insert_new item rows id ]
 
-step_by : (item : InsertItem) (rows : List Row) (id : Id) → id_in item.doc ≡ Some id → insert_step words item rows ≡ insert_new item rows id
+step_by : (item : InsertItem) (rows : List Row) (id : Id) → id_in item.doc ≡ Some id → insert_step document_rules item rows ≡ insert_new item rows id
 unfolding insert_by
 step_by item rows id has = ap (insert_by item rows) has
 
-pub insert_done : (item : InsertItem) (rows next : List (Id × Held)) (id : Id) (doc : Document) → id_in item.doc ≡ Some id → holds_id id (rows_in rows) ≡ false → next ≡ put_row id (Own doc) rows → doc ≡ item.doc → IsRising rows → AreKnown words (rows_in rows)
-    → Acted put_content laid_over (insert_step words item (rows_in rows)) rows next (record { n = 1; changed = 1 })
+pub insert_done : (item : InsertItem) (rows next : List (Id × Held)) (id : Id) (doc : Document) → id_in item.doc ≡ Some id → holds_id id (rows_in rows) ≡ false → next ≡ put_row id (Own doc) rows → doc ≡ item.doc → IsRising rows → AreKnown document_rules (rows_in rows)
+    → Acted put_content laid_over (insert_step document_rules item (rows_in rows)) rows next (record { n = 1; changed = 1 })
 insert_done item rows next id doc has free is same rising known =
     let done : Done = record { met = (id, item.doc) ∷ []; changed = (id, item.doc) ∷ [] } in
     let put : next ≡ put_row id (Own item.doc) rows = is ∙ ap (λ (d : Document). put_row id (Own d) rows) same in
@@ -53,7 +53,7 @@ pub record SoFar {I : Type 0} (step : I → List Row → Doing) (content : Docum
   pub n_is : n ≡ capped (length so_far.met)
   pub modified_is : modified ≡ capped (length so_far.changed)
 
-pub so_far_start : {I : Type 0} (step : I → List Row → Doing) (content : Document → Option Document) (left : List Row → List Row → List Row) (all : List I) (before : List (Id × Held)) → ((rows : List Row) → left rows [] ≡ rows) → IsRising before → AreKnown words (rows_in before)
+pub so_far_start : {I : Type 0} (step : I → List Row → Doing) (content : Document → Option Document) (left : List Row → List Row → List Row) (all : List I) (before : List (Id × Held)) → ((rows : List Row) → left rows [] ≡ rows) → IsRising before → AreKnown document_rules (rows_in before)
     → SoFar step content left all all before before 0 0
 so_far_start step content left all before idle rising known = record {
   so_far = nothing;

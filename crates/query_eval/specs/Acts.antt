@@ -9,7 +9,7 @@ use Rattle.txn_types.specs.declared.operation.UpdateItem.{UpdateItem}
 use Rattle.txn_types.specs.declared.write.Write.{Write}
 use Rattle.txn_semantics.specs.Effect.{AreKnown, Done, Doing, updated}
 use Rattle.txn_semantics.specs.Filters.{matches}
-use Rattle.txn_semantics.specs.Meaning.{Meaning, words}
+use Rattle.txn_semantics.specs.Meaning.{Meaning, document_rules}
 use Rattle.txn_semantics.specs.Rows.{Row, IsRising, laid_over}
 use Rattle.query_eval.specs.Held.{doc_in, rows_in, all_written}
 use Rattle.query_eval.specs.declared.error.EvalErr.{EvalErr}
@@ -55,14 +55,14 @@ pub record Changed (item : UpdateItem) (old new : Id × Held) (count : ℕ) : Ty
   pub doc : Document
   pub change : Option Document
   pub is_wanted : wanted_in item.filter old.1 ≡ Some doc
-  pub does : updated words item (old.0, doc) ≡ Ok (change_of (old.0, doc) change)
+  pub does : updated document_rules item (old.0, doc) ≡ Ok (change_of (old.0, doc) change)
   pub now : new ≡ with_change old change
   pub counted : count ≡ count_of change
 
 pub record Refused (item : UpdateItem) (old : Id × Held) (e : EvalErr) : Type 0 where
   pub doc : Document
   pub is_wanted : wanted_in item.filter old.1 ≡ Some doc
-  pub refuses : Refuses e (updated words item (old.0, doc))
+  pub refuses : Refuses e (updated document_rules item (old.0, doc))
 
 abbrev pub Changes : UpdateItem → Id × Held → Id × Held → Result (Option ℕ) EvalErr → Type 0
 Changes item old new (Ok None) = (wanted_in item.filter old.1 ≡ None) × (new ≡ old)
@@ -79,7 +79,7 @@ pub record Follows (content : Document → Option Document) (left : List Row →
   pub rows : rows_in after ≡ left (rows_in before) done.changed
   pub written : all_written after ≡ laid_over (all_written before) (map (λ row. (row.0, content row.1)) done.changed)
   pub rising : IsRising after
-  pub known : AreKnown words (rows_in after)
+  pub known : AreKnown document_rules (rows_in after)
 
 -- of an insert and an update, and of a delete
 abbrev pub put_content : Document → Option Document

@@ -3,7 +3,7 @@ ghost use Rattle.std.specs.Str.{bytes_eq};
 ghost use Rattle.bson_core.specs.Spelling.{spelling};
 ghost use Rattle.txn_types.specs.declared.operation.Op.TheVariants as ops;
 ghost use Rattle.txn_semantics.specs.Effect.{AreKnown, updated, update_step, delete_step, insert_step, without};
-ghost use Rattle.txn_semantics.specs.Meaning.{words, eval, ns_of};
+ghost use Rattle.txn_semantics.specs.Meaning.{document_rules, eval, ns_of};
 ghost use Rattle.txn_semantics.specs.Rows.{IsRising, laid_over, under};
 ghost use Rattle.query_eval.specs.Held.{rows_in, all_written};
 ghost use Rattle.query_eval.specs.Acts.{IsRefusal, Makes, Changes, Drops, Acts, put_content, no_content, Means};
@@ -74,7 +74,7 @@ fn refused(alloc: Global, index: u32, id: &Id, what: What) -> EvalErr
 
 /// The new document of a row that an item meets, where it has other bytes.
 fn changed(alloc: Global, item: &UpdateItem, id: &Id, doc: &Doc) -> Result<Option<Doc>, EvalErr>
-    ensures { Makes (id.now, doc.now) result (updated words item.now (id.now, doc.now)) }
+    ensures { Makes (id.now, doc.now) result (updated document_rules item.now (id.now, doc.now)) }
 {
     match apply(alloc, &item.update, doc) {
         Ok(new) => {
@@ -116,8 +116,8 @@ fn update_item(
     rows: &mut [(Id, Held<'_>)],
 ) -> Result<Met, EvalErr>
     requires rising { IsRising rows.old }
-    requires known { AreKnown words (rows_in rows.old) }
-    ensures { Acts put_content laid_over (update_step words item.now (rows_in rows.old)) rows.old rows.new result }
+    requires known { AreKnown document_rules (rows_in rows.old) }
+    ensures { Acts put_content laid_over (update_step document_rules item.now (rows_in rows.old)) rows.old rows.new result }
 {
     let mut met = Met { n: 0, changed: 0 };
     for row in rows.iter_mut() {
@@ -148,8 +148,8 @@ fn drop_row(filter: &Filter, row: &mut (Id, Held<'_>)) -> bool
 
 fn delete_item(item: &DeleteItem, rows: &mut [(Id, Held<'_>)]) -> Result<Met, EvalErr>
     requires rising { IsRising rows.old }
-    requires known { AreKnown words (rows_in rows.old) }
-    ensures { Acts no_content without (delete_step words item.now (rows_in rows.old)) rows.old rows.new result }
+    requires known { AreKnown document_rules (rows_in rows.old) }
+    ensures { Acts no_content without (delete_step document_rules item.now (rows_in rows.old)) rows.old rows.new result }
 {
     let mut met = Met { n: 0, changed: 0 };
     for held in rows.iter_mut() {
@@ -171,8 +171,8 @@ fn insert_item(
     rows: &mut Vec<(Id, Held<'_>)>,
 ) -> Result<Met, EvalErr>
     requires rising { IsRising rows.old.items }
-    requires known { AreKnown words (rows_in rows.old.items) }
-    ensures { Acts put_content laid_over (insert_step words item.now (rows_in rows.old.items)) rows.old.items rows.new.items result }
+    requires known { AreKnown document_rules (rows_in rows.old.items) }
+    ensures { Acts put_content laid_over (insert_step document_rules item.now (rows_in rows.old.items)) rows.old.items rows.new.items result }
 {
     let Some(id) = Id::in_doc(alloc, &item.doc)? else {
         return Ok(Met { n: 0, changed: 0 });
@@ -192,7 +192,7 @@ fn insert(
     mut rows: Vec<(Id, Held<'_>)>,
 ) -> Result<(OpReply, Writes), EvalErr>
     requires rising { IsRising rows.items }
-    requires known { AreKnown words (rows_in rows.items) }
+    requires known { AreKnown document_rules (rows_in rows.items) }
     requires unwritten { all_written rows.items ≡ [] }
     ensures { Means result (eval (ops.Insert ns.now items.now) (rows_in rows.entry.items)) }
 {
@@ -215,7 +215,7 @@ fn update(
     mut rows: Vec<(Id, Held<'_>)>,
 ) -> Result<(OpReply, Writes), EvalErr>
     requires rising { IsRising rows.items }
-    requires known { AreKnown words (rows_in rows.items) }
+    requires known { AreKnown document_rules (rows_in rows.items) }
     requires unwritten { all_written rows.items ≡ [] }
     ensures { Means result (eval (ops.Update ns.now items.now) (rows_in rows.entry.items)) }
 {
@@ -240,7 +240,7 @@ fn delete(
     mut rows: Vec<(Id, Held<'_>)>,
 ) -> Result<(OpReply, Writes), EvalErr>
     requires rising { IsRising rows.items }
-    requires known { AreKnown words (rows_in rows.items) }
+    requires known { AreKnown document_rules (rows_in rows.items) }
     requires unwritten { all_written rows.items ≡ [] }
     ensures { Means result (eval (ops.Delete ns.now items.now) (rows_in rows.entry.items)) }
 {
@@ -265,7 +265,7 @@ pub fn eval(
     own: &Writes,
 ) -> Result<(OpReply, Writes), EvalErr>
     requires rising { IsRising rows.now }
-    requires known { AreKnown words rows.now }
+    requires known { AreKnown document_rules rows.now }
     ensures { Means result (eval op.now (under (ns_of op.now) rows.now own.now)) }
 {
     match op {

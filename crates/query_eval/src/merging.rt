@@ -1,6 +1,6 @@
 ghost use Rattle.std.specs.Prelude.{◌≡◌, [], map, IfOk, IfErr, OnOk};
 ghost use Rattle.txn_semantics.specs.Found.{ordered, marks_of, joined};
-ghost use Rattle.txn_semantics.specs.Meaning.{words};
+ghost use Rattle.txn_semantics.specs.Meaning.{document_rules};
 ghost use Rattle.txn_semantics.specs.Merge.{n_of, modified_of, found_of, merge_counts, merge};
 ghost use Rattle.txn_semantics.specs.Rows.{IsRising, laid_over};
 ghost use Rattle.query_eval.specs.Held.{mark_of};
@@ -45,7 +45,7 @@ fn merge_counts(parts: &[OpReply]) -> OpReply
 
 /// What a shard told, document by document, and then the id of its next.
 fn marks_of<'a>(alloc: Global, part: &'a OpReply) -> Result<Vec<(Id, Held<'a>)>, AllocError>
-    ensures { IfOk result (λ v. map mark_of v.items ≡ marks_of words (found_of part.now)) }
+    ensures { IfOk result (λ v. map mark_of v.items ≡ marks_of document_rules (found_of part.now)) }
 {
     let mut marks = Vec::new(alloc);
     let OpReply::Rows { docs, cut } = part else {
@@ -81,7 +81,7 @@ fn joined<'a>(
     parts: &'a [OpReply],
     down: bool,
 ) -> Result<Vec<(Id, Held<'a>)>, AllocError>
-    ensures { IfOk result (λ v. map mark_of v.items ≡ joined [] (map (λ told. ordered down (marks_of words told)) (map found_of parts.now))) }
+    ensures { IfOk result (λ v. map mark_of v.items ≡ joined [] (map (λ told. ordered down (marks_of document_rules told)) (map found_of parts.now))) }
 {
     let mut all = Vec::new(alloc);
     for part in parts {

@@ -1,6 +1,6 @@
 ghost use Rattle.std.specs.Prelude.{◌≡◌, [], map, IfOk, OnOk};
 ghost use Rattle.txn_semantics.specs.Effect.{AreKnown};
-ghost use Rattle.txn_semantics.specs.Meaning.{words};
+ghost use Rattle.txn_semantics.specs.Meaning.{document_rules};
 ghost use Rattle.txn_semantics.specs.Rows.{IsRising, put_row, delete_row, written, under};
 ghost use Rattle.std.specs.Option.{option_copied};
 ghost use Rattle.query_eval.specs.Acts.{wanted_in};
@@ -103,7 +103,7 @@ pub fn rows_under<'a>(
 
 /// The writes to the rows that aren't as they were lent.
 pub fn writes_to(alloc: Global, ns: &Ns, rows: Vec<(Id, Held<'_>)>) -> Result<Writes, AllocError>
-    requires { AreKnown words (rows_in rows.items) }
+    requires { AreKnown document_rules (rows_in rows.items) }
     ensures { IfOk result (λ w. w ≡ map (write_of ns.now) (all_written rows.entry.items)) }
 {
     let mut writes = Writes::new(alloc);

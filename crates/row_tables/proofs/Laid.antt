@@ -1,12 +1,12 @@
 -- What writes leave: one write more, each of them kept, each document with its row's id.
 use Rattle.std.proofs.Common.{◌≡◌, ◌<◌, ℕ, zero, suc, ◌+◌, List, [], ◌∷◌, ◌++◌, Result, Ok, Err, OnOk, OnErr, length, get_or, take, refl, ap, sym, subst, ◌∙◌, arith}
 use Rattle.std.proofs.lemmas.List.{take_more}
-use Rattle.txn_types.specs.Writes.{IsKept, AllKept}
+use Rattle.txn_types.specs.Writes.{HasOwnId, AllHaveOwnIds}
 use Rattle.txn_types.specs.declared.id.Id.{Id}
 use Rattle.txn_types.specs.declared.write.Write.{Write}
 use Rattle.txn_types.specs.declared.write.Write.TheVariants.{Delete}
 use Rattle.txn_semantics.specs.Effect.{AreKnown}
-use Rattle.txn_semantics.specs.Meaning.{words}
+use Rattle.txn_semantics.specs.Meaning.{document_rules}
 use Rattle.txn_semantics.specs.Rows.{Row, delete_row, written, under}
 use Rattle.query_eval.proofs.Under.{known_under}
 
@@ -19,13 +19,13 @@ pub under_more : (ns : List ℕ) (rows : List Row) (writes : List Write) (i : �
 under_more ns rows writes i write below = ap (under ns rows) (take_more writes i write below) ∙ under_behind ns rows (take i writes) (get_or writes i write)
 
 -- each of the writes is kept
-pub kept_at : (writes : List Write) (i : ℕ) (write : Write) → AllKept writes → i < length writes → IsKept (get_or writes i write)
+pub kept_at : (writes : List Write) (i : ℕ) (write : Write) → AllHaveOwnIds writes → i < length writes → HasOwnId (get_or writes i write)
 kept_at [] i write all below = absurd (omega (arith, below))
 kept_at (first ∷ writes) zero write all below = all.0
 kept_at (first ∷ writes) (suc i) write all below = kept_at writes i write all.1 (omega (arith, below))
 
 -- without one of them, each document still has its row's id
-pub known_taken : (id : Id) (rows : List Row) → AreKnown words rows → AreKnown words (delete_row id rows)
+pub known_taken : (id : Id) (rows : List Row) → AreKnown document_rules rows → AreKnown document_rules (delete_row id rows)
 known_taken id rows all = known_under [] rows (Delete [] id ∷ []) (tt, tt) all
 
 -- what holds of the rows that a call leaves at Ok and at Err, holds of what it leaves

@@ -2,7 +2,7 @@ ghost use Rattle.std.specs.Prelude.{◌≡◌, [], Some, IfOk, OnOk, OnErr};
 ghost use Rattle.std.specs.Str.{bytes_eq};
 ghost use Rattle.txn_types.specs.Ids.{id_in};
 ghost use Rattle.txn_semantics.specs.Effect.{AreKnown};
-ghost use Rattle.txn_semantics.specs.Meaning.{words};
+ghost use Rattle.txn_semantics.specs.Meaning.{document_rules};
 ghost use Rattle.txn_semantics.specs.Rows.{IsRising, put_row, delete_row};
 
 use crate::rows::{put, take_out};
@@ -23,7 +23,7 @@ impl Model for Table {
     ghost use Rattle.std.specs.Coded.{codes};
     ghost use Rattle.bson_core.specs.contracts.value.Value as value;
     ghost use Rattle.txn_semantics.specs.Effect.{AreKnown};
-    ghost use Rattle.txn_semantics.specs.Meaning.{words};
+    ghost use Rattle.txn_semantics.specs.Meaning.{document_rules};
     ghost use Rattle.txn_semantics.specs.Rows.{Row, IsRising};
 
     ghost Value = { List ℕ × List Row };
@@ -32,7 +32,7 @@ impl Model for Table {
 
     ghost view = { λ t. (t.ns, t.rows.items) };
 
-    ghost invariant = { λ t. IsRising t.rows.items × AreKnown words t.rows.items };
+    ghost invariant = { λ t. IsRising t.rows.items × AreKnown document_rules t.rows.items };
 }
 
 impl Table {
@@ -56,7 +56,7 @@ impl Table {
     pub fn rows(&self) -> &[(Id, Doc)]
         ensures rows { result.now ≡ self.now.1 }
         ensures rising { IsRising self.now.1 }
-        ensures known { AreKnown words self.now.1 }
+        ensures known { AreKnown document_rules self.now.1 }
     {
         self.rows.as_slice()
     }

@@ -1,10 +1,10 @@
 ghost use Rattle.std.specs.Prelude.{◌≡◌, ◌<◌, [], List, ℕ, Some, length, position, take, IfSome, OnOk, OnErr};
 ghost use Rattle.std.specs.Str.{bytes_eq};
 ghost use Rattle.txn_types.specs.Ids.{id_in};
-ghost use Rattle.txn_types.specs.Writes.{IsKept};
+ghost use Rattle.txn_types.specs.Writes.{HasOwnId};
 ghost use Rattle.txn_types.specs.declared.write.Write.TheVariants.{Put, Delete};
 ghost use Rattle.txn_semantics.specs.Effect.{AreKnown};
-ghost use Rattle.txn_semantics.specs.Meaning.{words};
+ghost use Rattle.txn_semantics.specs.Meaning.{document_rules};
 ghost use Rattle.txn_semantics.specs.Rows.{IsRising, written, under};
 ghost use Rattle.row_tables.specs.Tables.{rows_of};
 
@@ -33,7 +33,7 @@ impl Tables {
     pub fn rows(&self, ns: &Ns) -> &[(Id, Doc)]
         ensures rows { result.now ≡ rows_of self.now ns.now }
         ensures rising { IsRising result.now }
-        ensures known { AreKnown words result.now }
+        ensures known { AreKnown document_rules result.now }
     {
         match self.place_of(ns) {
             Some(at) => {
@@ -65,7 +65,7 @@ impl Tables {
 
     /// Lays one write over the rows.
     fn lay(&mut self, alloc: Global, write: &Write) -> Result<(), AllocError>
-        requires { IsKept write.now }
+        requires { HasOwnId write.now }
         ensures ok { OnOk result ((ns : List ℕ) → rows_of self.new ns ≡ written ns (rows_of self.old ns) write.now) }
         ensures err { OnErr result ((ns : List ℕ) → rows_of self.new ns ≡ rows_of self.old ns) }
     {

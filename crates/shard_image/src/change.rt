@@ -1,6 +1,6 @@
 //! What a record changes.
 ghost use Rattle.std.specs.Prelude.{◌≡◌, ◌+◌, ◌-◌, ◌^◌, ◌<◌, [], ◌∷◌, ◌++◌, map, None, Some, true, IfOk, IfErr, Err, OnOk, OnErr, IsSomeAnd};
-ghost use Rattle.txn_types.specs.Writes.{AllKept};
+ghost use Rattle.txn_types.specs.Writes.{AllHaveOwnIds};
 ghost use Rattle.txn_semantics.specs.Writes.{place_of};
 ghost use Rattle.session_table.specs.Sessions.{session_of, with_session, state_behind, commit_time};
 ghost use Rattle.version_store.specs.Versions.{decided, dropped, with_writes, keys_of};
@@ -61,7 +61,7 @@ fn lay(
     writes: &[Write],
 ) -> Result<(), ImageErr>
     requires free { AreFree tag.now store.old writes.now }
-    requires kept { AllKept writes.now }
+    requires kept { AllHaveOwnIds writes.now }
     requires keys { keys.now ≡ keys_of tag.now (with_writes tag.now store.old writes.now) }
     requires back { dropped tag.now (with_writes tag.now store.old writes.now) ≡ store.old }
     ensures store { OnOk result (store.new ≡ with_writes tag.now store.old writes.now) }
@@ -89,7 +89,7 @@ fn lay_prepared(
     writes: &[Write],
 ) -> Result<(), ImageErr>
     requires free { AreFree q.tag store.old writes.now }
-    requires kept { AllKept writes.now }
+    requires kept { AllHaveOwnIds writes.now }
     requires keys { keys.now ≡ keys_of q.tag (with_writes q.tag store.old writes.now) }
     requires back { dropped q.tag (with_writes q.tag store.old writes.now) ≡ store.old }
     ensures store { OnOk result (store.new ≡ with_writes q.tag store.old writes.now) }

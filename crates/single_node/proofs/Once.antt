@@ -16,7 +16,7 @@ use Rattle.txn_types.specs.declared.write.Write.{Write}
 use Rattle.txn_semantics.specs.Keyed.{laid, AllAbove, Rises}
 use Rattle.txn_semantics.specs.Rows.{Row, IsRising, laid_over}
 use Rattle.txn_semantics.specs.Effect.{Done, Doing, through, insert_step, update_step, delete_step, without}
-use Rattle.txn_semantics.specs.Meaning.{Meaning, words, eval, meaning_of, writes_of, put_of, removed_of, count_met, count_both}
+use Rattle.txn_semantics.specs.Meaning.{Meaning, document_rules, eval, meaning_of, writes_of, put_of, removed_of, count_met, count_both}
 use Rattle.txn_semantics.specs.Writes.{Place, place_of, place_cmp, placed, write_set}
 use Rattle.txn_semantics.proofs.Laying.{laid_behind, cmp_self}
 use Rattle.txn_semantics.proofs.Parts.{rising_laid}
@@ -65,7 +65,7 @@ done_once ns reply write to (Ok done) = rising_once ns write to (laid_over [] do
 done_once ns reply write to (Err e) = refl
 
 pub writes_once : (op : Op) (rows : List Row) → WritesOnce (eval op rows)
-writes_once (Insert ns items) rows = done_once ns count_met (put_of ns) (λ row. refl) (through (insert_step words) laid_over items rows)
+writes_once (Insert ns items) rows = done_once ns count_met (put_of ns) (λ row. refl) (through (insert_step document_rules) laid_over items rows)
 writes_once (Find ns wanted down limit) rows = refl
-writes_once (Update ns items) rows = done_once ns count_both (put_of ns) (λ row. refl) (through (update_step words) laid_over items rows)
-writes_once (Delete ns items) rows = done_once ns count_met (removed_of ns) (λ row. refl) (through (delete_step words) without items rows)
+writes_once (Update ns items) rows = done_once ns count_both (put_of ns) (λ row. refl) (through (update_step document_rules) laid_over items rows)
+writes_once (Delete ns items) rows = done_once ns count_met (removed_of ns) (λ row. refl) (through (delete_step document_rules) without items rows)

@@ -13,7 +13,7 @@ use Rattle.txn_types.specs.declared.node.Lsid.{Lsid}
 use Rattle.txn_types.specs.declared.operation.Op.{Op}
 use Rattle.txn_types.specs.declared.operation.OpReply.{OpReply}
 use Rattle.txn_semantics.specs.Keyed.{put}
-use Rattle.txn_semantics.specs.Meaning.{words}
+use Rattle.txn_semantics.specs.Meaning.{document_rules}
 use Rattle.txn_semantics.specs.Merge.{merge}
 use Rattle.txn_semantics.specs.Splits.{outcome}
 use Rattle.txn_semantics.specs.declared.commits.Answered.{Answered}
@@ -376,7 +376,7 @@ module _ (n : ℕ) (a : Answer) (begun us : List Unanswered) (told : List Answer
         let now = answered_among (map (with_answer n a) us) in
         let what : (answered_of u).outcome ≡ Ok
         (merge u.op (filter_map st.reply_in (put nat_cmp a.shard a answers))) =
-        ap (λ (rows : List (ℕ × Answer)). outcome words u.op (filter_map meaning_in rows))
+        ap (λ (rows : List (ℕ × Answer)). outcome document_rules u.op (filter_map meaning_in rows))
         answers_now ∙ told_merged u.op (put nat_cmp a.shard a answers) r in
         let among : Contains now (answered_of u) =
         has_map answered_of (filter (λ (x : Unanswered). is_complete x && all_say x)

@@ -13,7 +13,7 @@ use Rattle.txn_types.specs.declared.operation.OpReply.{OpReply}
 use Rattle.txn_types.specs.declared.operation.OpReply.TheVariants.{Count}
 use Rattle.txn_types.specs.declared.write.Write.{Write}
 use Rattle.txn_semantics.specs.Effect.{Doing, AreKnown, matching}
-use Rattle.txn_semantics.specs.Meaning.{capped, eval, meaning_of, count_met, count_both, reply_of, words}
+use Rattle.txn_semantics.specs.Meaning.{capped, eval, meaning_of, count_met, count_both, reply_of, document_rules}
 use Rattle.txn_semantics.specs.Merge.{merge, merge_counts}
 use Rattle.txn_semantics.specs.Rows.{Row, IsRising, at}
 use Rattle.txn_semantics.specs.Splits.{here, goes, outcome, AreOnce}
@@ -80,16 +80,16 @@ only_shard m ns id is one =
 -- The part.
 
 goes_by : (place : Id → ℕ) (item : InsertItem) (o : Option Id) → id_in item.doc ≡ o
-    → is_some o ≡ true → ((id : Id) → place id ≡ 0) → goes words (here place 0) item ≡ true
+    → is_some o ≡ true → ((id : Id) → place id ≡ 0) → goes document_rules (here place 0) item ≡ true
 goes_by place item None e some zero = grind arith
 goes_by place item (Some id) e some zero = rw (e, goes) (ap (λ (s : ℕ). nat_eq s 0) (zero id))
 
 all_go : (place : Id → ℕ) (docs : List InsertItem) → ((id : Id) → place id ≡ 0)
     → All (λ item. is_some (id_in item.doc) ≡ true) docs
-    → filter (goes words (here place 0)) docs ≡ docs
+    → filter (goes document_rules (here place 0)) docs ≡ docs
 all_go place [] zero h = refl
 all_go place (item ∷ docs) zero h =
-    let first : goes words (here place 0) item ≡ true = goes_by place item (id_in item.doc) refl
+    let first : goes document_rules (here place 0) item ≡ true = goes_by place item (id_in item.doc) refl
     (All-head (λ (i : InsertItem). is_some (id_in i.doc) ≡ true) item docs h) zero in
     rw first (ap (λ (more : List InsertItem). item ∷ more)
     (all_go place docs zero (All-tail (λ (i : InsertItem). is_some (id_in i.doc) ≡ true) item
@@ -117,13 +117,13 @@ met_one a = ap₂ (λ (x y : ℕ). Count x y) (capped_twice a) refl
 -- what is told of counts
 met_case : (op : Op) (write : Row → Write) (d : Doing)
     → ((parts : List OpReply) → merge op parts ≡ merge_counts parts)
-    → outcome words op (meaning_of count_met write d ∷ []) ≡ reply_of (meaning_of count_met write d)
+    → outcome document_rules op (meaning_of count_met write d ∷ []) ≡ reply_of (meaning_of count_met write d)
 met_case op write (Err e) merges = refl
 met_case op write (Ok done) merges = ap Ok (merges (count_met done ∷ []) ∙ met_one _)
 
 both_case : (op : Op) (write : Row → Write) (d : Doing)
     → ((parts : List OpReply) → merge op parts ≡ merge_counts parts)
-    → outcome words op (meaning_of count_both write d ∷ []) ≡ reply_of
+    → outcome document_rules op (meaning_of count_both write d ∷ []) ≡ reply_of
     (meaning_of count_both write d)
 both_case op write (Err e) merges = refl
 both_case op write (Ok done) merges = ap Ok (merges (count_both done ∷ []) ∙ counts_one _ _)
@@ -136,13 +136,13 @@ all_once : (rows : List Row) → AreOnce (λ id. 0) (0 ∷ []) rows
 all_once [] = tt
 all_once (row ∷ rows) = (refl, all_once rows)
 
-pub one_merges : (op : Op) (rows : List Row) → IsRising rows → AreKnown words rows
-    → outcome words op (eval op rows ∷ []) ≡ reply_of (eval op rows)
+pub one_merges : (op : Op) (rows : List Row) → IsRising rows → AreKnown document_rules rows
+    → outcome document_rules op (eval op rows ∷ []) ≡ reply_of (eval op rows)
 one_merges (Insert ns docs) rows rises known = met_case (Insert ns docs) _ _ (λ parts. refl)
 one_merges (Update ns items) rows rises known = both_case (Update ns items) _ _ (λ parts. refl)
 one_merges (Delete ns items) rows rises known = met_case (Delete ns items) _ _ (λ parts. refl)
 one_merges (Find ns wanted down limit) rows rises known =
     let op = Find ns wanted down limit in
-    let whole = replies_merge words (λ id. 0) (0 ∷ []) op rows rises
-    (known, all_once (matching words wanted rows)) in
-    sym (whole ∙ ap (λ (there : List Row). outcome words op (eval op there ∷ [])) (all_at rows))
+    let whole = replies_merge document_rules (λ id. 0) (0 ∷ []) op rows rises
+    (known, all_once (matching document_rules wanted rows)) in
+    sym (whole ∙ ap (λ (there : List Row). outcome document_rules op (eval op there ∷ [])) (all_at rows))

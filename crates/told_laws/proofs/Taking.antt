@@ -13,7 +13,7 @@ use Rattle.txn_types.specs.declared.operation.Op.{Op}
 use Rattle.txn_types.specs.declared.operation.OpErr.{OpErr}
 use Rattle.txn_types.specs.declared.operation.OpReply.{OpReply}
 use Rattle.txn_semantics.specs.Keyed.{put}
-use Rattle.txn_semantics.specs.Meaning.{words}
+use Rattle.txn_semantics.specs.Meaning.{document_rules}
 use Rattle.txn_semantics.specs.Merge.{merge}
 use Rattle.txn_semantics.specs.Splits as sp
 use Rattle.router_state.specs.State.{Post, is_waited, without}
@@ -268,7 +268,7 @@ module _ (op : Op) where
   all_replies (row ∷ answers) e = reply_case row answers row.1.outcome refl e (all_replies answers)
 
 pub told_merged : (op : Op) (answers : List (ℕ × Answer)) → AreReplies op answers
-    → sp.outcome words op (filter_map meaning_in answers) ≡ Ok
+    → sp.outcome document_rules op (filter_map meaning_in answers) ≡ Ok
     (merge op (filter_map st.reply_in answers))
 told_merged op answers h = rw (h.none, sp.outcome)
     (ap (λ (l : List OpReply). Ok (merge op l)) h.replies)

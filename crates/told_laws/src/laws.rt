@@ -8,7 +8,7 @@ ghost use Rattle.cluster_core.specs.Trace.{IsFresh, IsTrace};
 ghost use Rattle.answer_laws.specs.Opened.{opened_in};
 ghost use Rattle.txn_types.specs.declared.operation.Op.{Op};
 ghost use Rattle.txn_semantics.specs.Effect.{AreKnown};
-ghost use Rattle.txn_semantics.specs.Meaning.{eval, reply_of, words};
+ghost use Rattle.txn_semantics.specs.Meaning.{eval, reply_of, document_rules};
 ghost use Rattle.txn_semantics.specs.Rows.{Row, IsRising};
 ghost use Rattle.txn_semantics.specs.Splits.{outcome};
 ghost use Rattle.chunk_map.specs.Map.{Map, IsMap};
@@ -49,6 +49,6 @@ pub fn documents_have_ids()
 /// stand each under its own id.
 pub fn one_shard_has_all()
     ensures part { (m : Map) (op : Op) → IsMap m → m.shards ≡ 1 → HaveIds op → part_at m op 0 ≡ op }
-    ensures reply { (op : Op) (rows : List Row) → IsRising rows → AreKnown words rows
-        → outcome words op (eval op rows ∷ []) ≡ reply_of (eval op rows) }
+    ensures reply { (op : Op) (rows : List Row) → IsRising rows → AreKnown document_rules rows
+        → outcome document_rules op (eval op rows ∷ []) ≡ reply_of (eval op rows) }
 {}

@@ -1,5 +1,5 @@
 ghost use Rattle.std.specs.Prelude.{◌≡◌, ◌++◌, [], ◌∷◌, None, map, IfOk, OnOk};
-ghost use Rattle.txn_types.specs.Writes.{IsKept, AllKept};
+ghost use Rattle.txn_types.specs.Writes.{HasOwnId, AllHaveOwnIds};
 ghost use Rattle.txn_semantics.specs.Writes.{write_set};
 ghost use Rattle.txn_model.specs.Commits.{prepared_in, prepared_at, parts_in, joined, records_of};
 ghost use Rattle.txn_model.specs.Gathering.{with_prepared, gathered};
@@ -19,7 +19,7 @@ pub struct Share {
 
 /// Puts a copy of a write behind others.
 fn put(alloc: Global, writes: &mut Writes, write: &Write) -> Result<(), AllocError>
-    requires { IsKept write.now }
+    requires { HasOwnId write.now }
     ensures { OnOk result (writes.new ≡ writes.old ++ write.now ∷ []) }
 {
     writes.push(write.copy(alloc)?)?;
@@ -28,7 +28,7 @@ fn put(alloc: Global, writes: &mut Writes, write: &Write) -> Result<(), AllocErr
 
 /// Puts copies of writes behind others.
 fn put_all(alloc: Global, writes: &mut Writes, more: &[Write]) -> Result<(), AllocError>
-    requires { AllKept more.now }
+    requires { AllHaveOwnIds more.now }
     ensures { OnOk result (writes.new ≡ writes.old ++ more.now) }
 {
     for write in more {

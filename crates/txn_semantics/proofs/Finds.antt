@@ -1,7 +1,7 @@
 -- Finds of parts, merged.
 use Rattle.std.proofs.Common.{◌≡◌, ◌<◌, ◌≤◌, ℕ, zero, suc, List, [], ◌∷◌, ◌-◌, Bool, true, false, cond, refl, ap, ap₂, subst, ◌∙◌, sym, take, nat_eq, nat_le, arith, if◌then◌else◌, Some, None, eqb-true, eq-eqb, ne_eqb, leb-true, leb-false}
 use Rattle.txn_types.specs.declared.id.Id.{Id}
-use Rattle.txn_semantics.specs.Effect.{AreKnown, Words}
+use Rattle.txn_semantics.specs.Effect.{AreKnown, DocumentRules}
 use Rattle.txn_semantics.specs.Found.{with_doc, cut_rows, Mark, marks_of, cut_marks}
 use Rattle.txn_semantics.specs.Rows.{Row, at}
 use Rattle.txn_semantics.specs.Splits.{here}
@@ -10,12 +10,12 @@ abbrev pub bump : ℕ → ℕ → (ℕ → ℕ) → ℕ → ℕ
 bump k n c t = if nat_eq k t then n else c t
 
 -- the marks that a part gives of rows, with this many allowed and this room
-abbrev pub trim : Words → ℕ → ℕ → List Row → List Mark
+abbrev pub trim : DocumentRules → ℕ → ℕ → List Row → List Mark
 trim w c r [] = []
 trim w c r (row ∷ rows) = if nat_eq c 0 then [] else (if nat_le (w.size row.1) r then (row.0, Some row.1) ∷ trim w (c - 1) (r - w.size row.1) rows else ((row.0, None) ∷ []))
 
 -- the same of all parts, in the order of all rows
-abbrev pub trimmed : Words → (Id → ℕ) → (ℕ → ℕ) → (ℕ → ℕ) → List Row → List Mark
+abbrev pub trimmed : DocumentRules → (Id → ℕ) → (ℕ → ℕ) → (ℕ → ℕ) → List Row → List Mark
 trimmed w place c r [] = []
 trimmed w place c r (row ∷ rows) =
     if nat_eq (c (place row.0)) 0 then trimmed w place c r rows
@@ -23,14 +23,14 @@ trimmed w place c r (row ∷ rows) =
     then (row.0, Some row.1) ∷ trimmed w place (bump (place row.0) (c (place row.0) - 1) c) (bump (place row.0) (r (place row.0) - w.size row.1) r) rows
     else (row.0, None) ∷ trimmed w place (bump (place row.0) 0 c) r rows)
 
-trim_none : (w : Words) (c r : ℕ) (rows : List Row) → c ≡ 0 → trim w c r rows ≡ []
+trim_none : (w : DocumentRules) (c r : ℕ) (rows : List Row) → c ≡ 0 → trim w c r rows ≡ []
 trim_none w c r [] h = refl
 trim_none w c r (row ∷ rows) h = rw h refl
 
-abbrev pub IsPart : Words → (Id → ℕ) → ℕ → List Row → Type 0
+abbrev pub IsPart : DocumentRules → (Id → ℕ) → ℕ → List Row → Type 0
 IsPart w place s rows = (c r : ℕ → ℕ) → at (here place s) (trimmed w place c r rows) ≡ trim w (c s) (r s) (at (here place s) rows)
 
-part_same : (w : Words) (place : Id → ℕ) (c r : ℕ → ℕ) (row : Row) (rows : List Row) (z f : Bool) → nat_eq (c (place row.0)) 0 ≡ z → nat_eq (place row.0) (place row.0) ≡ true → IsPart w place (place row.0) rows
+part_same : (w : DocumentRules) (place : Id → ℕ) (c r : ℕ → ℕ) (row : Row) (rows : List Row) (z f : Bool) → nat_eq (c (place row.0)) 0 ≡ z → nat_eq (place row.0) (place row.0) ≡ true → IsPart w place (place row.0) rows
     → at (here place (place row.0)) (if z then trimmed w place c r rows
     else (if f
     then (row.0, Some row.1) ∷ trimmed w place (bump (place row.0) (c (place row.0) - 1) c) (bump (place row.0) (r (place row.0) - w.size row.1) r) rows
@@ -45,7 +45,7 @@ part_same w place c r row rows false false hz self more =
     ap (λ b. cond b ((row.0, None) ∷ at (here place (place row.0)) (trimmed w place (bump (place row.0) 0 c) r rows)) (at (here place (place row.0)) (trimmed w place (bump (place row.0) 0 c) r rows))) self
     ∙ ap (λ (xs : List Mark). (row.0, None) ∷ xs) (more (bump (place row.0) 0 c) r ∙ trim_none w (bump (place row.0) 0 c (place row.0)) (r (place row.0)) (at (here place (place row.0)) rows) (ap (λ b. cond b 0 (c (place row.0))) self))
 
-part_other : (w : Words) (place : Id → ℕ) (s : ℕ) (c r : ℕ → ℕ) (row : Row) (rows : List Row) (z f : Bool) → nat_eq (place row.0) s ≡ false → IsPart w place s rows
+part_other : (w : DocumentRules) (place : Id → ℕ) (s : ℕ) (c r : ℕ → ℕ) (row : Row) (rows : List Row) (z f : Bool) → nat_eq (place row.0) s ≡ false → IsPart w place s rows
     → at (here place s) (if z then trimmed w place c r rows
     else (if f
     then (row.0, Some row.1) ∷ trimmed w place (bump (place row.0) (c (place row.0) - 1) c) (bump (place row.0) (r (place row.0) - w.size row.1) r) rows
@@ -61,14 +61,14 @@ part_other w place s c r row rows false false other more =
     ∙ more (bump (place row.0) 0 c) r
     ∙ ap (λ b. trim w (cond b 0 (c s)) (r s) (at (here place s) rows)) other
 
-part_case : (w : Words) (place : Id → ℕ) (s : ℕ) (c r : ℕ → ℕ) (row : Row) (rows : List Row) (b : Bool) → nat_eq (place row.0) s ≡ b → IsPart w place s rows
+part_case : (w : DocumentRules) (place : Id → ℕ) (s : ℕ) (c r : ℕ → ℕ) (row : Row) (rows : List Row) (b : Bool) → nat_eq (place row.0) s ≡ b → IsPart w place s rows
     → at (here place s) (trimmed w place c r (row ∷ rows)) ≡ trim w (c s) (r s) (cond b (row ∷ at (here place s) rows) (at (here place s) rows))
 part_case w place s c r row rows true is more =
     subst (λ s. IsPart w place s rows → at (here place s) (trimmed w place c r (row ∷ rows)) ≡ trim w (c s) (r s) (row ∷ at (here place s) rows)) (eqb-true (place row.0) s is)
     (λ m. part_same w place c r row rows (nat_eq (c (place row.0)) 0) (nat_le (w.size row.1) (r (place row.0))) refl (eq-eqb (place row.0) (place row.0) refl) m) more
 part_case w place s c r row rows false is more = part_other w place s c r row rows (nat_eq (c (place row.0)) 0) (nat_le (w.size row.1) (r (place row.0))) is more
 
-pub part_marks : (w : Words) (place : Id → ℕ) (s : ℕ) (rows : List Row) → IsPart w place s rows
+pub part_marks : (w : DocumentRules) (place : Id → ℕ) (s : ℕ) (rows : List Row) → IsPart w place s rows
 part_marks w place s [] = λ c r. refl
 part_marks w place s (row ∷ rows) = λ c r. part_case w place s c r row rows (nat_eq (place row.0) s) refl (part_marks w place s rows)
 
@@ -83,7 +83,7 @@ bump_case n m x false h g = g
 bump_most : (n k m : ℕ) (c : ℕ → ℕ) → n ≤ m → ((t : ℕ) → n ≤ c t) → IsAtMost n (bump k m c)
 bump_most n k m c h more = λ t. bump_case n m (c t) (nat_eq k t) h (more t)
 
-fits_case : (w : Words) (room n : ℕ) (row : Row) (marks : List Mark) (rows : List Row) (f : Bool) → nat_le (w.size row.1) room ≡ f
+fits_case : (w : DocumentRules) (room n : ℕ) (row : Row) (marks : List Mark) (rows : List Row) (f : Bool) → nat_le (w.size row.1) room ≡ f
     → (w.size row.1 ≤ room → cut_marks w (room - w.size row.1) (take n marks) ≡ cut_rows w (room - w.size row.1) (take n rows))
     → (if f then with_doc row.1 (cut_marks w (room - w.size row.1) (take n marks)) else ([], Some row.0)) ≡ (if f then with_doc row.1 (cut_rows w (room - w.size row.1) (take n rows)) else ([], Some row.0))
 fits_case w room n row marks rows true is more = ap (with_doc row.1) (more (leb-true (w.size row.1) room is))
@@ -99,7 +99,7 @@ leb_case a b false is h = refl
 lt-leb_false : (a b : ℕ) → b < a → nat_le a b ≡ false
 lt-leb_false a b h = leb_case a b (nat_le a b) refl h
 
-cut_case : (w : Words) (room n : ℕ) (row : Row) (marks gone : List Mark) (rows : List Row) (room' : ℕ) (f : Bool) → nat_le (w.size row.1) room' ≡ f → room ≤ room'
+cut_case : (w : DocumentRules) (room n : ℕ) (row : Row) (marks gone : List Mark) (rows : List Row) (room' : ℕ) (f : Bool) → nat_le (w.size row.1) room' ≡ f → room ≤ room'
     → (w.size row.1 ≤ room → cut_marks w (room - w.size row.1) (take n marks) ≡ cut_rows w (room - w.size row.1) (take n rows))
     → cut_marks w room (take (suc n) (if f then (row.0, Some row.1) ∷ marks else ((row.0, None) ∷ gone))) ≡ cut_rows w room (row ∷ take n rows)
 cut_case w room n row marks gone rows room' true is most more = fits_case w room n row marks rows (nat_le (w.size row.1) room) refl more
@@ -107,7 +107,7 @@ cut_case w room n row marks gone rows room' false is most more =
     let large : nat_le (w.size row.1) room ≡ false = lt-leb_false (w.size row.1) room (lt_of (leb-false (w.size row.1) room' is) most) in
     sym (ap (λ b. if b then with_doc row.1 (cut_rows w (room - w.size row.1) (take n rows)) else ([], Some row.0)) large)
 
-pub cut_same : (w : Words) (place : Id → ℕ) (rows : List Row) (n room : ℕ) (c r : ℕ → ℕ) → IsAtMost n c → IsAtMost room r → cut_marks w room (take n (trimmed w place c r rows)) ≡ cut_rows w room (take n rows)
+pub cut_same : (w : DocumentRules) (place : Id → ℕ) (rows : List Row) (n room : ℕ) (c r : ℕ → ℕ) → IsAtMost n c → IsAtMost room r → cut_marks w room (take n (trimmed w place c r rows)) ≡ cut_rows w room (take n rows)
 cut_same w place [] zero room c r hc hr = refl
 cut_same w place [] (suc n) room c r hc hr = refl
 cut_same w place (row ∷ rows) zero room c r hc hr = refl
@@ -124,7 +124,7 @@ cut_same w place (row ∷ rows) (suc n) room c r hc hr =
     (bump_most (room - w.size row.1) (place row.0) (r (place row.0) - w.size row.1) r (omega (arith, hr (place row.0))) (λ t. omega (arith, hr t))))
 
 -- what a part's reply tells
-told_case : (w : Words) (c r : ℕ) (row : Row) (rows : List Row) (f : Bool) → w.id_in row.1 ≡ Some row.0
+told_case : (w : DocumentRules) (c r : ℕ) (row : Row) (rows : List Row) (f : Bool) → w.id_in row.1 ≡ Some row.0
     → marks_of w (cut_rows w (r - w.size row.1) (take c rows)) ≡ trim w c (r - w.size row.1) rows
     → marks_of w (if f then with_doc row.1 (cut_rows w (r - w.size row.1) (take c rows)) else ([], Some row.0)) ≡ (if f then (row.0, Some row.1) ∷ trim w c (r - w.size row.1) rows else ((row.0, None) ∷ []))
 told_case w c r row rows true known more =
@@ -132,7 +132,7 @@ told_case w c r row rows true known more =
     ∙ ap (λ (xs : List Mark). (row.0, Some row.1) ∷ xs) more
 told_case w c r row rows false known more = refl
 
-pub told_marks : (w : Words) (c r : ℕ) (rows : List Row) → AreKnown w rows → marks_of w (cut_rows w r (take c rows)) ≡ trim w c r rows
+pub told_marks : (w : DocumentRules) (c r : ℕ) (rows : List Row) → AreKnown w rows → marks_of w (cut_rows w r (take c rows)) ≡ trim w c r rows
 told_marks w zero r [] known = refl
 told_marks w zero r (row ∷ rows) known = refl
 told_marks w (suc c) r [] known = refl

@@ -10,7 +10,7 @@ use Rattle.txn_types.specs.declared.operation.InsertItem.{InsertItem}
 use Rattle.txn_types.specs.declared.operation.UpdateItem.{UpdateItem}
 use Rattle.txn_types.specs.declared.operation.DeleteItem.{DeleteItem}
 use Rattle.bson_core.specs.Fields.{Document}
-use Rattle.txn_semantics.specs.Effect.{Words, Done, Doing, nothing, with_done, after, each, through, matching, met_by, insert_new, insert_step, updated, update_step, delete_step}
+use Rattle.txn_semantics.specs.Effect.{DocumentRules, Done, Doing, nothing, with_done, after, each, through, matching, met_by, insert_new, insert_step, updated, update_step, delete_step}
 use Rattle.txn_semantics.specs.Rows.{Row, at, laid_over, put_row, holds_id}
 use Rattle.txn_semantics.specs.Splits.{OnDone, Along}
 use Rattle.txn_semantics.proofs.Merged.{AllIds, all_append}
@@ -53,7 +53,7 @@ all_one : (G : Id → Type 0) (rows : List Row) → AllIds G rows → AllIds G (
 all_one G [] h = tt
 all_one G (row ∷ rows) h = (h.0, tt)
 
-all_meets : (G : Id → Type 0) (w : Words) (f : Filter) (many : Bool) (rows : List Row) → AllIds G (matching w f rows) → AllIds G (met_by w f many rows)
+all_meets : (G : Id → Type 0) (w : DocumentRules) (f : Filter) (many : Bool) (rows : List Row) → AllIds G (matching w f rows) → AllIds G (met_by w f many rows)
 all_meets G w f true rows h = h
 all_meets G w f false rows h = all_one G (matching w f rows) h
 
@@ -61,17 +61,17 @@ updated_changed : (G : Id → Type 0) (row : Row) (doc : Document) (b : Bool) �
 updated_changed G row doc true h = tt
 updated_changed G row doc false h = (h, tt)
 
-updated_good_case : (G : Id → Type 0) (w : Words) (item : UpdateItem) (row : Row) (r : Result Document What) → G row.0 → IsGood G (elim r [
+updated_good_case : (G : Id → Type 0) (w : DocumentRules) (item : UpdateItem) (row : Row) (r : Result Document What) → G row.0 → IsGood G (elim r [
   | Err what ↦ Err (record { index = item.index; id = row.0; what = what })
   | Ok doc ↦ Ok (record { met = row ∷ []; changed = if w.same row.1 doc then [] else ((row.0, doc) ∷ []) })
 ])
 updated_good_case G w item row (Ok doc) h = ((h, tt), updated_changed G row doc (w.same row.1 doc) h)
 updated_good_case G w item row (Err what) h = h
 
-pub update_good : (G : Id → Type 0) (w : Words) (item : UpdateItem) (rows : List Row) → AllIds G (matching w item.filter rows) → IsGood G (update_step w item rows)
+pub update_good : (G : Id → Type 0) (w : DocumentRules) (item : UpdateItem) (rows : List Row) → AllIds G (matching w item.filter rows) → IsGood G (update_step w item rows)
 update_good G w item rows h = each_good G (updated w item) (λ row g. updated_good_case G w item row (w.apply item.update row.1) g) (met_by w item.filter item.many rows) (all_meets G w item.filter item.many rows h)
 
-pub delete_good : (G : Id → Type 0) (w : Words) (item : DeleteItem) (rows : List Row) → AllIds G (matching w item.filter rows) → IsGood G (delete_step w item rows)
+pub delete_good : (G : Id → Type 0) (w : DocumentRules) (item : DeleteItem) (rows : List Row) → AllIds G (matching w item.filter rows) → IsGood G (delete_step w item rows)
 delete_good G w item rows h = let all : AllIds G (met_by w item.filter item.many rows) = all_meets G w item.filter item.many rows h in (all, all)
 
 new_good_case : (G : Id → Type 0) (item : InsertItem) (id : Id) (b : Bool) → G id → IsGood G (if b then Err (record { index = item.index; id = id; what = Duplicate }) else Ok (record { met = (id, item.doc) ∷ []; changed = (id, item.doc) ∷ [] }))
@@ -82,7 +82,7 @@ insert_good_case : (G : Id → Type 0) (item : InsertItem) (rows : List Row) (o 
 insert_good_case G item rows None h = (tt, tt)
 insert_good_case G item rows (Some id) h = new_good_case G item id (holds_id id rows) (h id refl)
 
-pub insert_good : (G : Id → Type 0) (w : Words) (item : InsertItem) (rows : List Row) → ((id : Id) → w.id_in item.doc ≡ Some id → G id) → IsGood G (insert_step w item rows)
+pub insert_good : (G : Id → Type 0) (w : DocumentRules) (item : InsertItem) (rows : List Row) → ((id : Id) → w.id_in item.doc ≡ Some id → G id) → IsGood G (insert_step w item rows)
 insert_good G w item rows h = insert_good_case G item rows (w.id_in item.doc) h
 
 -- rows whose ids are good stay so

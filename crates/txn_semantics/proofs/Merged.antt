@@ -5,7 +5,7 @@ use Rattle.std.proofs.lemmas.List.Elements.{filter-append}
 use Rattle.std.proofs.lemmas.Grind.{reverse_onto}
 use Rattle.std.specs.declared.cmp.Ordering.TheVariants.{Less}
 use Rattle.txn_types.specs.declared.id.Id.{Id}
-use Rattle.txn_semantics.specs.Effect.{AreKnown, Words}
+use Rattle.txn_semantics.specs.Effect.{AreKnown, DocumentRules}
 use Rattle.txn_semantics.specs.Found.{joined, first_of, ordered, Found, cut_rows, Mark, marks_of, cut_marks, merged}
 use Rattle.txn_semantics.specs.Rows.{Row, at, IsRising}
 use Rattle.txn_semantics.specs.Splits.{here, times}
@@ -16,7 +16,7 @@ use Rattle.txn_semantics.proofs.Totals.{AreNamed, join_parts}
 use Rattle.txn_types.specs.Order.{id_cmp}
 
 -- a find by any test of rows
-abbrev pub found_by : Words → ℕ → List Row → Bool → ℕ → (Row → Bool) → Found
+abbrev pub found_by : DocumentRules → ℕ → List Row → Bool → ℕ → (Row → Bool) → Found
 found_by w room rows down limit wanted = cut_rows w room (first_of limit (ordered down (filter wanted rows)))
 
 -- a filter in either order
@@ -58,7 +58,7 @@ all_trimmed_case P row more skipped last true f h hm hs hl = hs
 all_trimmed_case P row more skipped last false true h hm hs hl = (h, hm)
 all_trimmed_case P row more skipped last false false h hm hs hl = (h, hl)
 
-all_trimmed : (P : Id → Type 0) (w : Words) (place : Id → ℕ) (rows : List Row) → AllIds P rows → (c r : ℕ → ℕ) → AllIds P (trimmed w place c r rows)
+all_trimmed : (P : Id → Type 0) (w : DocumentRules) (place : Id → ℕ) (rows : List Row) → AllIds P rows → (c r : ℕ → ℕ) → AllIds P (trimmed w place c r rows)
 all_trimmed P w place [] h = λ c r. tt
 all_trimmed P w place (row ∷ rows) h = λ c r.
     all_trimmed_case P row (trimmed w place (bump (place row.0) (c (place row.0) - 1) c) (bump (place row.0) (r (place row.0) - w.size row.1) r) rows) (trimmed w place c r rows) (trimmed w place (bump (place row.0) 0 c) r rows)
@@ -71,7 +71,7 @@ chain_trimmed_case R row more skipped last true f am al hm hs hl = hs
 chain_trimmed_case R row more skipped last false true am al hm hs hl = (am, hm)
 chain_trimmed_case R row more skipped last false false am al hm hs hl = (al, hl)
 
-chain_trimmed : (R : Id → Id → Type 0) (w : Words) (place : Id → ℕ) (rows : List Row) → Chain R rows → (c r : ℕ → ℕ) → Chain R (trimmed w place c r rows)
+chain_trimmed : (R : Id → Id → Type 0) (w : DocumentRules) (place : Id → ℕ) (rows : List Row) → Chain R rows → (c r : ℕ → ℕ) → Chain R (trimmed w place c r rows)
 chain_trimmed R w place [] h = λ c r. tt
 chain_trimmed R w place (row ∷ rows) h = λ c r.
     chain_trimmed_case R row (trimmed w place (bump (place row.0) (c (place row.0) - 1) c) (bump (place row.0) (r (place row.0) - w.size row.1) r) rows) (trimmed w place c r rows) (trimmed w place (bump (place row.0) 0 c) r rows)
@@ -115,7 +115,7 @@ rising_of_chain [] h = tt
 rising_of_chain (row ∷ rows) h = (above_of_all row.0 rows h.0, rising_of_chain rows h.1)
 
 -- the marks of all, rising again
-rising_marks : (w : Words) (place : Id → ℕ) (c r : ℕ → ℕ) (down : Bool) (rows : List Row) → IsRising rows → IsRising (ordered down (trimmed w place c r (ordered down rows)))
+rising_marks : (w : DocumentRules) (place : Id → ℕ) (c r : ℕ → ℕ) (down : Bool) (rows : List Row) → IsRising rows → IsRising (ordered down (trimmed w place c r (ordered down rows)))
 rising_marks w place c r false rows h = rising_of_chain (trimmed w place c r rows) (chain_trimmed below w place rows (chain_of_rising rows h) c r)
 rising_marks w place c r true rows h =
     rising_of_chain (reverse (trimmed w place c r (reverse rows)))
@@ -133,7 +133,7 @@ all_of_named : {A : Type 0} (place : Id → ℕ) (shards : List ℕ) (rows : Lis
 all_of_named place shards [] h = tt
 all_of_named place shards (row ∷ rows) h = (h.0, all_of_named place shards rows h.1)
 
-named_marks : (w : Words) (place : Id → ℕ) (shards : List ℕ) (c r : ℕ → ℕ) (down : Bool) (rows : List Row) → AreNamed place shards rows → AreNamed place shards (ordered down (trimmed w place c r (ordered down rows)))
+named_marks : (w : DocumentRules) (place : Id → ℕ) (shards : List ℕ) (c r : ℕ → ℕ) (down : Bool) (rows : List Row) → AreNamed place shards rows → AreNamed place shards (ordered down (trimmed w place c r (ordered down rows)))
 named_marks w place shards c r down rows h =
     named_of_all place shards (ordered down (trimmed w place c r (ordered down rows)))
     (all_ordered (λ id. 1 ≤ times (place id) shards) down (trimmed w place c r (ordered down rows))
@@ -154,7 +154,7 @@ length_trimmed_case row more skipped last n true f hm hs hl = omega (arith, hs)
 length_trimmed_case row more skipped last n false true hm hs hl = omega (arith, hm)
 length_trimmed_case row more skipped last n false false hm hs hl = omega (arith, hl)
 
-length_trimmed : (w : Words) (place : Id → ℕ) (rows : List Row) (c r : ℕ → ℕ) → length (trimmed w place c r rows) ≤ length rows
+length_trimmed : (w : DocumentRules) (place : Id → ℕ) (rows : List Row) (c r : ℕ → ℕ) → length (trimmed w place c r rows) ≤ length rows
 length_trimmed w place [] c r = omega arith
 length_trimmed w place (row ∷ rows) c r =
     let h : length (trimmed w place c r (row ∷ rows)) ≤ length rows + 1 = length_trimmed_case row (trimmed w place (bump (place row.0) (c (place row.0) - 1) c) (bump (place row.0) (r (place row.0) - w.size row.1) r) rows) (trimmed w place c r rows) (trimmed w place (bump (place row.0) 0 c) r rows) (length rows)
@@ -172,23 +172,23 @@ first_case limit n false xs h = refl
 first_allowed : {X : Type 0} (limit n : ℕ) (xs : List X) → length xs ≤ n → first_of limit xs ≡ take (allowed limit n) xs
 first_allowed limit n xs h = first_case limit n (nat_eq limit 0) xs h
 
-known_filter_case : (w : Words) (row : Row) (rows : List Row) (b : Bool) → w.id_in row.1 ≡ Some row.0 → AreKnown w rows → AreKnown w (cond b (row ∷ rows) rows)
+known_filter_case : (w : DocumentRules) (row : Row) (rows : List Row) (b : Bool) → w.id_in row.1 ≡ Some row.0 → AreKnown w rows → AreKnown w (cond b (row ∷ rows) rows)
 known_filter_case w row rows true h more = (h, more)
 known_filter_case w row rows false h more = more
 
-known_filter : (w : Words) (p : Row → Bool) (rows : List Row) → AreKnown w rows → AreKnown w (filter p rows)
+known_filter : (w : DocumentRules) (p : Row → Bool) (rows : List Row) → AreKnown w rows → AreKnown w (filter p rows)
 known_filter w p [] h = tt
 known_filter w p (row ∷ rows) h = known_filter_case w row (filter p rows) (p row) h.0 (known_filter w p rows h.1)
 
-known_append : (w : Words) (xs ys : List Row) → AreKnown w xs → AreKnown w ys → AreKnown w (xs ++ ys)
+known_append : (w : DocumentRules) (xs ys : List Row) → AreKnown w xs → AreKnown w ys → AreKnown w (xs ++ ys)
 known_append w [] ys hx hy = hy
 known_append w (x ∷ xs) ys hx hy = (hx.0, known_append w xs ys hx.1 hy)
 
-known_reverse : (w : Words) (xs : List Row) → AreKnown w xs → AreKnown w (reverse xs)
+known_reverse : (w : DocumentRules) (xs : List Row) → AreKnown w xs → AreKnown w (reverse xs)
 known_reverse w [] h = tt
 known_reverse w (x ∷ xs) h = subst (AreKnown w) (sym (reverse-cons x xs)) (known_append w (reverse xs) (x ∷ []) (known_reverse w xs h.1) (h.0, tt))
 
-known_ordered : (w : Words) (down : Bool) (xs : List Row) → AreKnown w xs → AreKnown w (ordered down xs)
+known_ordered : (w : DocumentRules) (down : Bool) (xs : List Row) → AreKnown w xs → AreKnown w (ordered down xs)
 known_ordered w true xs h = known_reverse w xs h
 known_ordered w false xs h = h
 
@@ -196,13 +196,13 @@ known_ordered w false xs h = h
 abbrev asked : Bool → (Row → Bool) → List Row → List Row
 asked down wanted rows = ordered down (filter wanted rows)
 
-abbrev whole_marks : Words → ℕ → (Id → ℕ) → Bool → ℕ → (Row → Bool) → List Row → List Mark
+abbrev whole_marks : DocumentRules → ℕ → (Id → ℕ) → Bool → ℕ → (Row → Bool) → List Row → List Mark
 whole_marks w room place down limit wanted rows = trimmed w place (λ _. allowed limit (length (asked down wanted rows))) (λ _. room) (asked down wanted rows)
 
 asked_at : (place : Id → ℕ) (s : ℕ) (down : Bool) (wanted : Row → Bool) (rows : List Row) → asked down wanted (at (here place s) rows) ≡ at (here place s) (asked down wanted rows)
 asked_at place s down wanted rows = ap (ordered down) (filters wanted (λ row. here place s row.0) rows) ∙ sym (filter-ordered (λ row. here place s row.0) down (filter wanted rows))
 
-part_told : (w : Words) (room : ℕ) (place : Id → ℕ) (down : Bool) (limit : ℕ) (wanted : Row → Bool) (rows : List Row) (s : ℕ) → AreKnown w rows
+part_told : (w : DocumentRules) (room : ℕ) (place : Id → ℕ) (down : Bool) (limit : ℕ) (wanted : Row → Bool) (rows : List Row) (s : ℕ) → AreKnown w rows
     → ordered down (marks_of w (found_by w room (at (here place s) rows) down limit wanted)) ≡ at (here place s) (ordered down (whole_marks w room place down limit wanted rows))
 part_told w room place down limit wanted rows s known =
     ap (ordered down)
@@ -212,14 +212,14 @@ part_told w room place down limit wanted rows s known =
     ∙ sym (part_marks w place s (asked down wanted rows) (λ _. allowed limit (length (asked down wanted rows))) (λ _. room)))
     ∙ sym (filter-ordered (λ mark. here place s mark.0) down (whole_marks w room place down limit wanted rows))
 
-parts_told : (w : Words) (room : ℕ) (place : Id → ℕ) (down : Bool) (limit : ℕ) (wanted : Row → Bool) (rows : List Row) (shards : List ℕ) → AreKnown w rows
+parts_told : (w : DocumentRules) (room : ℕ) (place : Id → ℕ) (down : Bool) (limit : ℕ) (wanted : Row → Bool) (rows : List Row) (shards : List ℕ) → AreKnown w rows
     → map (λ told. ordered down (marks_of w told)) (map (λ s. found_by w room (at (here place s) rows) down limit wanted) shards) ≡ map (λ s. at (here place s) (ordered down (whole_marks w room place down limit wanted rows))) shards
 parts_told w room place down limit wanted rows [] known = refl
 parts_told w room place down limit wanted rows (s ∷ shards) known =
     ap₂ (λ (x : List Mark) xs. x ∷ xs) (part_told w room place down limit wanted rows s known) (parts_told w room place down limit wanted rows shards known)
 
 -- the merged replies of the parts are the reply over all rows, cut or not
-pub finds_merge : (w : Words) (room : ℕ) (place : Id → ℕ) (shards : List ℕ) (down : Bool) (limit : ℕ) (wanted : Row → Bool) (rows : List Row)
+pub finds_merge : (w : DocumentRules) (room : ℕ) (place : Id → ℕ) (shards : List ℕ) (down : Bool) (limit : ℕ) (wanted : Row → Bool) (rows : List Row)
     → IsRising rows → AreKnown w rows → AreNamed place shards (filter wanted rows)
     → merged w room down limit (map (λ s. found_by w room (at (here place s) rows) down limit wanted) shards) ≡ found_by w room rows down limit wanted
 finds_merge w room place shards down limit wanted rows rising known names =

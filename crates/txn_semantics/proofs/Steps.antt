@@ -12,7 +12,7 @@ use Rattle.txn_types.specs.declared.operation.InsertItem.{InsertItem}
 use Rattle.txn_types.specs.declared.operation.UpdateItem.{UpdateItem}
 use Rattle.txn_types.specs.declared.operation.DeleteItem.{DeleteItem}
 use Rattle.bson_core.specs.Fields.{Document}
-use Rattle.txn_semantics.specs.Effect.{Words, Done, Doing, nothing, after, each, through, matching, met_by, insert_new, insert_step, updated, update_step, delete_step, without}
+use Rattle.txn_semantics.specs.Effect.{DocumentRules, Done, Doing, nothing, after, each, through, matching, met_by, insert_new, insert_step, updated, update_step, delete_step, without}
 use Rattle.txn_semantics.specs.Rows.{Row, at, laid_over, IsRising, holds_id}
 use Rattle.txn_semantics.specs.Splits.{AreAt, AreAtOne, here, OneMeetsOne, OnDone, Along, IndicesRise, goes}
 use Rattle.txn_semantics.proofs.Halves.{part, SplitsTo, IsBehind, StepSplits, AreAll}
@@ -52,7 +52,7 @@ rising_one : (rows : List Row) → IsRising (take 1 rows)
 rising_one [] = tt
 rising_one (row ∷ rows) = (tt, tt)
 
-rising_meets_case : (w : Words) (f : Filter) (many : Bool) (rows : List Row) → IsRising rows → IsRising (met_by w f many rows)
+rising_meets_case : (w : DocumentRules) (f : Filter) (many : Bool) (rows : List Row) → IsRising rows → IsRising (met_by w f many rows)
 rising_meets_case w f true rows r = rising_filter (λ row. w.matches f row.1) rows r
 rising_meets_case w f false rows r = rising_one (matching w f rows)
 
@@ -70,7 +70,7 @@ all_at : (place : Id → ℕ) (s s' : ℕ) (rows : List Row) → AreAt place s r
 all_at place s s' [] h = tt
 all_at place s s' (row ∷ rows) h = (ap (λ n. nat_eq n s') h.0, all_at place s s' rows h.1)
 
-meets_at : (w : Words) (f : Filter) (place : Id → ℕ) (s : ℕ) (many : Bool) (rows : List Row) → OneMeetsOne place many (matching w f rows)
+meets_at : (w : DocumentRules) (f : Filter) (place : Id → ℕ) (s : ℕ) (many : Bool) (rows : List Row) → OneMeetsOne place many (matching w f rows)
     → at (here place s) (met_by w f many rows) ≡ met_by w f many (at (here place s) rows)
 meets_at w f place s true rows one = filters (λ row. here place s row.0) (λ row. w.matches f row.1) rows
 meets_at w f place s false rows one =
@@ -85,17 +85,17 @@ updated_ok row doc false true p h = rw h refl
 updated_ok row doc true false p h = rw h refl
 updated_ok row doc false false p h = rw h refl
 
-updated_case : (w : Words) (item : UpdateItem) (row : Row) (r : Result Document What) → IsLocal item.index row (elim r [
+updated_case : (w : DocumentRules) (item : UpdateItem) (row : Row) (r : Result Document What) → IsLocal item.index row (elim r [
   | Err what ↦ Err (record { index = item.index; id = row.0; what = what })
   | Ok doc ↦ Ok (record { met = row ∷ []; changed = if w.same row.1 doc then [] else ((row.0, doc) ∷ []) })
 ])
 updated_case w item row (Ok doc) = λ p. updated_ok row doc (w.same row.1 doc) (p row.0) p refl
 updated_case w item row (Err what) = (refl, refl)
 
-updated_local : (w : Words) (item : UpdateItem) (row : Row) → IsLocal item.index row (updated w item row)
+updated_local : (w : DocumentRules) (item : UpdateItem) (row : Row) → IsLocal item.index row (updated w item row)
 updated_local w item row = updated_case w item row (w.apply item.update row.1)
 
-update_splits : (w : Words) (place : Id → ℕ) (s : ℕ) (item : UpdateItem) (rows : List Row) → IsRising rows → OneMeetsOne place item.many (matching w item.filter rows)
+update_splits : (w : DocumentRules) (place : Id → ℕ) (s : ℕ) (item : UpdateItem) (rows : List Row) → IsRising rows → OneMeetsOne place item.many (matching w item.filter rows)
     → StepSplits (update_step w) (here place s) (λ _. true) item rows
 update_splits w place s item rows rising one = record {
   going = λ _. subst (λ xs. SplitsTo (here place s) (update_step w item rows) (each (updated w item) xs)) (meets_at w item.filter place s item.many rows one)
@@ -123,7 +123,7 @@ behind_of : (n m : ℕ) (r : Doing) → n < m → IsIndex m r → IsBehind n r
 behind_of n m (Ok d) h i = tt
 behind_of n m (Err e) h i = subst (λ k. n < k) (sym i) h
 
-pub update_is_step : (w : Words) → IsStep (update_step w) laid_over (λ item. item.index)
+pub update_is_step : (w : DocumentRules) → IsStep (update_step w) laid_over (λ item. item.index)
 update_is_step w = record {
   of = λ n item rows h. behind_of n item.index (update_step w item rows) h (index_each item.index (updated w item) (updated_local w item) (met_by w item.filter item.many rows));
   own = λ item rows e h. index_of item.index (update_step w item rows) e h (index_each item.index (updated w item) (updated_local w item) (met_by w item.filter item.many rows));
@@ -136,7 +136,7 @@ filter_true : {X : Type 0} (xs : List X) → filter (λ _. true) xs ≡ xs
 filter_true [] = refl
 filter_true (x ∷ xs) = ap (λ ys. x ∷ ys) (filter_true xs)
 
-pub updates_split : (w : Words) (place : Id → ℕ) (s : ℕ) (items : List UpdateItem) (rows : List Row) → IsRising rows → IndicesRise (λ item. item.index) items
+pub updates_split : (w : DocumentRules) (place : Id → ℕ) (s : ℕ) (items : List UpdateItem) (rows : List Row) → IsRising rows → IndicesRise (λ item. item.index) items
     → Along (λ item rows. OneMeetsOne place item.many (matching w item.filter rows)) (update_step w) laid_over items rows
     → SplitsTo (here place s) (through (update_step w) laid_over items rows) (through (update_step w) laid_over items (at (here place s) rows))
 updates_split w place s items rows rising rise along =
@@ -179,7 +179,7 @@ pub at-without : (p : Id → Bool) (rows gone : List Row) → at p (without rows
 at-without p [] gone = refl
 at-without p (row ∷ rows) gone = without_case p row rows gone (p row.0) refl (at-without p rows gone)
 
-pub delete_is_step : (w : Words) → IsStep (delete_step w) without (λ item. item.index)
+pub delete_is_step : (w : DocumentRules) → IsStep (delete_step w) without (λ item. item.index)
 delete_is_step w = record {
   of = λ n item rows h. tt;
   own = λ item rows e h. cc;
@@ -188,14 +188,14 @@ delete_is_step w = record {
   idle = λ rows. filter_true rows;
 }
 
-delete_splits : (w : Words) (place : Id → ℕ) (s : ℕ) (item : DeleteItem) (rows : List Row) → IsRising rows → OneMeetsOne place item.many (matching w item.filter rows)
+delete_splits : (w : DocumentRules) (place : Id → ℕ) (s : ℕ) (item : DeleteItem) (rows : List Row) → IsRising rows → OneMeetsOne place item.many (matching w item.filter rows)
     → StepSplits (delete_step w) (here place s) (λ _. true) item rows
 delete_splits w place s item rows rising one = record {
   going = λ _. ap (λ xs. Ok (record { met = xs; changed = xs })) (sym (meets_at w item.filter place s item.many rows one));
   staying = λ h. let wrong : true ≡ false = h in cc;
 }
 
-pub deletes_split : (w : Words) (place : Id → ℕ) (s : ℕ) (items : List DeleteItem) (rows : List Row) → IsRising rows → IndicesRise (λ item. item.index) items
+pub deletes_split : (w : DocumentRules) (place : Id → ℕ) (s : ℕ) (items : List DeleteItem) (rows : List Row) → IsRising rows → IndicesRise (λ item. item.index) items
     → Along (λ item rows. OneMeetsOne place item.many (matching w item.filter rows)) (delete_step w) without items rows
     → SplitsTo (here place s) (through (delete_step w) without items rows) (through (delete_step w) without items (at (here place s) rows))
 deletes_split w place s items rows rising rise along =
@@ -235,7 +235,7 @@ insert_index : (item : InsertItem) (rows : List Row) (o : Option Id) → IsIndex
 insert_index item rows None = tt
 insert_index item rows (Some id) = new_index item id (holds_id id rows)
 
-pub insert_is_step : (w : Words) → IsStep (insert_step w) laid_over (λ item. item.index)
+pub insert_is_step : (w : DocumentRules) → IsStep (insert_step w) laid_over (λ item. item.index)
 insert_is_step w = record {
   of = λ n item rows h. behind_of n item.index (insert_step w item rows) h (insert_index item rows (w.id_in item.doc));
   own = λ item rows e h. index_of item.index (insert_step w item rows) e h (insert_index item rows (w.id_in item.doc));
@@ -252,7 +252,7 @@ along_any : {I : Type 0} (step : I → List Row → Doing) (left : List Row → 
 along_any step left [] rows = tt
 along_any step left (item ∷ items) rows = (tt, on_any (step item rows) (λ d. Along (λ _ _. Unit {0}) step left items (left rows d.changed)) (λ d. along_any step left items (left rows d.changed)))
 
-pub inserts_split : (w : Words) (place : Id → ℕ) (s : ℕ) (items : List InsertItem) (rows : List Row) → IsRising rows → IndicesRise (λ item. item.index) items
+pub inserts_split : (w : DocumentRules) (place : Id → ℕ) (s : ℕ) (items : List InsertItem) (rows : List Row) → IsRising rows → IndicesRise (λ item. item.index) items
     → SplitsTo (here place s) (through (insert_step w) laid_over items rows) (through (insert_step w) laid_over (filter (goes w (here place s)) items) (at (here place s) rows))
 inserts_split w place s items rows rising rise =
     through_splits (λ _ _. Unit {0}) (insert_step w) laid_over (λ item. item.index) (insert_is_step w) (here place s) (goes w (here place s))

@@ -15,7 +15,7 @@ use Rattle.txn_types.specs.declared.write.Write.{Write}
 use Rattle.txn_types.specs.declared.operation.InsertItem.{InsertItem}
 use Rattle.txn_types.specs.declared.operation.UpdateItem.{UpdateItem}
 use Rattle.txn_types.specs.declared.operation.DeleteItem.{DeleteItem}
-use Rattle.txn_semantics.specs.Effect.{Words, Done, Doing, through, insert_step, update_step, delete_step, without, matching}
+use Rattle.txn_semantics.specs.Effect.{DocumentRules, Done, Doing, through, insert_step, update_step, delete_step, without, matching}
 use Rattle.txn_semantics.specs.Found.{joined, merged}
 use Rattle.txn_semantics.specs.Meaning.{capped, eval_by, Meaning, meaning_of, put_of, removed_of, count_met, count_both, rows_of, reply_of, writes_of}
 use Rattle.txn_semantics.specs.Merge.{capped_sum, n_of, modified_of, found_of, merge_counts, merge_by}
@@ -48,7 +48,7 @@ all_replies : (k : ℕ → OpReply × List Write) (shards : List ℕ) → replie
 all_replies k [] = refl
 all_replies k (s ∷ shards) = ap (λ rs. (k s).0 ∷ rs) (all_replies k shards)
 
-told_ok : (w : Words) (op : Op) (k : ℕ → OpReply × List Write) (shards : List ℕ) → outcome w op (map (λ s. Ok (k s)) shards) ≡ Ok (merge_by w op (map (λ s. (k s).0) shards))
+told_ok : (w : DocumentRules) (op : Op) (k : ℕ → OpReply × List Write) (shards : List ℕ) → outcome w op (map (λ s. Ok (k s)) shards) ≡ Ok (merge_by w op (map (λ s. (k s).0) shards))
 told_ok w op k shards =
     ap (λ o. elim o [ None ↦ Ok (merge_by w op (replies (map (λ s. Ok (k s)) shards))) | Some e ↦ Err e ]) (none_least k shards)
     ∙ ap (λ rs. Ok (merge_by w op rs)) (all_replies k shards)
@@ -114,7 +114,7 @@ least_is : (e : OpErr) (k : ℕ) (m : ℕ → Meaning) → ((s : ℕ) → IsFine
 least_is e k m fine there [] h = absurd (omega (arith, h))
 least_is e k m fine there (s ∷ shards) h = least_case e k m s shards (nat_eq k s) refl fine there h (least_is e k m fine there shards)
 
-told_err : (w : Words) (op : Op) (e : OpErr) (parts : List Meaning) → least_err parts ≡ Some e → outcome w op parts ≡ Err e
+told_err : (w : DocumentRules) (op : Op) (e : OpErr) (parts : List Meaning) → least_err parts ≡ Some e → outcome w op parts ≡ Err e
 told_err w op e parts h = ap (λ o. elim o [ None ↦ Ok (merge_by w op (replies parts)) | Some e ↦ Err e ]) h
 
 -- what is known of a whole and its parts
@@ -175,7 +175,7 @@ merge_both place shards d hm hc =
     (ap capped_sum (map_twice modified_of (λ s. count_both (part (here place s) d)) shards) ∙ counts_merge place shards d.changed (once_of_all place shards d.changed hc))
 
 -- replies and errors
-counts_told : (w : Words) (op : Op) (place : Id → ℕ) (shards : List ℕ) (reply : Done → OpReply) (write : Row → Write) (whole : Doing) (parts : ℕ → Doing)
+counts_told : (w : DocumentRules) (op : Op) (place : Id → ℕ) (shards : List ℕ) (reply : Done → OpReply) (write : Row → Write) (whole : Doing) (parts : ℕ → Doing)
     → ((rs : List OpReply) → merge_by w op rs ≡ merge_counts rs) → CountsMerge reply → Cores place shards whole parts
     → reply_of (meaning_of reply write whole) ≡ outcome w op (map (λ s. meaning_of reply write (parts s)) shards)
 counts_told w op place shards reply write (Ok d) parts merges counts cores =
@@ -224,7 +224,7 @@ all_items : {I : Type 0} (Q : I → Type 0) → ((item : I) → Q item) → (ite
 all_items Q f [] = tt
 all_items Q f (item ∷ items) = (f item, all_items Q f items)
 
-update_cores : (w : Words) (place : Id → ℕ) (shards : List ℕ) (ns : List ℕ) (items : List UpdateItem) (rows : List Row) → IsRising rows → IsSplit w place shards (Update ns items) rows
+update_cores : (w : DocumentRules) (place : Id → ℕ) (shards : List ℕ) (ns : List ℕ) (items : List UpdateItem) (rows : List Row) → IsRising rows → IsSplit w place shards (Update ns items) rows
     → Cores place shards (through (update_step w) laid_over items rows) (λ s. through (update_step w) laid_over items (at (here place s) rows))
 update_cores w place shards ns items rows rising split = record {
   splits = λ s. updates_split w place s items rows rising split.0
@@ -238,7 +238,7 @@ update_cores w place shards ns items rows rising split = record {
       items (at (here place s) rows) (all_items (λ _. Unit {0}) (λ _. tt) items) (at_own (here place s) rows));
 }
 
-delete_cores : (w : Words) (place : Id → ℕ) (shards : List ℕ) (ns : List ℕ) (items : List DeleteItem) (rows : List Row) → IsRising rows → IsSplit w place shards (Delete ns items) rows
+delete_cores : (w : DocumentRules) (place : Id → ℕ) (shards : List ℕ) (ns : List ℕ) (items : List DeleteItem) (rows : List Row) → IsRising rows → IsSplit w place shards (Delete ns items) rows
     → Cores place shards (through (delete_step w) without items rows) (λ s. through (delete_step w) without items (at (here place s) rows))
 delete_cores w place shards ns items rows rising split = record {
   splits = λ s. deletes_split w place s items rows rising split.0
@@ -260,22 +260,22 @@ along_items : {I : Type 0} (Q : I → Type 0) (step : I → List Row → Doing) 
 along_items Q step left [] rows h = tt
 along_items Q step left (item ∷ items) rows h = (h.0, anyway (step item rows) (λ d. Along (λ item rows. Q item) step left items (left rows d.changed)) (λ d. along_items Q step left items (left rows d.changed) h.1))
 
-abbrev HasId : Words → (Id → Type 0) → InsertItem → Type 0
+abbrev HasId : DocumentRules → (Id → Type 0) → InsertItem → Type 0
 HasId w G item = (id : Id) → w.id_in item.doc ≡ Some id → G id
 
-items_of : (w : Words) (place : Id → ℕ) (shards : List ℕ) (items : List InsertItem) → GoOnce w place shards items → AllItems (HasId w (λ id. times (place id) shards ≡ 1)) items
+items_of : (w : DocumentRules) (place : Id → ℕ) (shards : List ℕ) (items : List InsertItem) → GoOnce w place shards items → AllItems (HasId w (λ id. times (place id) shards ≡ 1)) items
 items_of w place shards [] h = tt
 items_of w place shards (item ∷ items) h = (h.0, items_of w place shards items h.1)
 
-going_case : (w : Words) (p : Id → Bool) (item : InsertItem) (items : List InsertItem) (b : Bool) → goes w p item ≡ b → AllItems (HasId w (λ id. p id ≡ true)) items → AllItems (HasId w (λ id. p id ≡ true)) (cond b (item ∷ items) items)
+going_case : (w : DocumentRules) (p : Id → Bool) (item : InsertItem) (items : List InsertItem) (b : Bool) → goes w p item ≡ b → AllItems (HasId w (λ id. p id ≡ true)) items → AllItems (HasId w (λ id. p id ≡ true)) (cond b (item ∷ items) items)
 going_case w p item items true is more = ((λ id h. ap (λ o. elim o [ None ↦ false | Some id ↦ p id ]) (sym h) ∙ is), more)
 going_case w p item items false is more = more
 
-going : (w : Words) (p : Id → Bool) (items : List InsertItem) → AllItems (HasId w (λ id. p id ≡ true)) (filter (goes w p) items)
+going : (w : DocumentRules) (p : Id → Bool) (items : List InsertItem) → AllItems (HasId w (λ id. p id ≡ true)) (filter (goes w p) items)
 going w p [] = tt
 going w p (item ∷ items) = going_case w p item (filter (goes w p) items) (goes w p item) refl (going w p items)
 
-insert_cores : (w : Words) (place : Id → ℕ) (shards : List ℕ) (ns : List ℕ) (items : List InsertItem) (rows : List Row) → IsRising rows → IsSplit w place shards (Insert ns items) rows
+insert_cores : (w : DocumentRules) (place : Id → ℕ) (shards : List ℕ) (ns : List ℕ) (items : List InsertItem) (rows : List Row) → IsRising rows → IsSplit w place shards (Insert ns items) rows
     → Cores place shards (through (insert_step w) laid_over items rows) (λ s. through (insert_step w) laid_over (filter (goes w (here place s)) items) (at (here place s) rows))
 insert_cores w place shards ns items rows rising split = record {
   splits = λ s. inserts_split w place s items rows rising split.0;
@@ -288,7 +288,7 @@ insert_cores w place shards ns items rows rising split = record {
 }
 
 -- the laws
-pub replies_merge : (w : Words) (place : Id → ℕ) (shards : List ℕ) (op : Op) (rows : List Row) → IsRising rows → IsSplit w place shards op rows → RepliesMerge w place shards op rows
+pub replies_merge : (w : DocumentRules) (place : Id → ℕ) (shards : List ℕ) (op : Op) (rows : List Row) → IsRising rows → IsSplit w place shards op rows → RepliesMerge w place shards op rows
 replies_merge w place shards (Insert ns docs) rows rising split =
     counts_told w (Insert ns docs) place shards count_met (put_of ns) (through (insert_step w) laid_over docs rows) (λ s. through (insert_step w) laid_over (filter (goes w (here place s)) docs) (at (here place s) rows)) (λ rs. refl) merge_met (insert_cores w place shards ns docs rows rising split)
 replies_merge w place shards (Find ns wanted down limit) rows rising split =
@@ -300,7 +300,7 @@ replies_merge w place shards (Update ns items) rows rising split =
 replies_merge w place shards (Delete ns items) rows rising split =
     counts_told w (Delete ns items) place shards count_met (removed_of ns) (through (delete_step w) without items rows) (λ s. through (delete_step w) without items (at (here place s) rows)) (λ rs. refl) merge_met (delete_cores w place shards ns items rows rising split)
 
-pub writes_split : (w : Words) (place : Id → ℕ) (shards : List ℕ) (op : Op) (rows : List Row) → IsRising rows → IsSplit w place shards op rows → WritesSplit w place op rows
+pub writes_split : (w : DocumentRules) (place : Id → ℕ) (shards : List ℕ) (op : Op) (rows : List Row) → IsRising rows → IsSplit w place shards op rows → WritesSplit w place op rows
 writes_split w place shards (Insert ns docs) rows rising split =
     writes_told place count_met (put_of ns) (through (insert_step w) laid_over docs rows) (λ s. through (insert_step w) laid_over (filter (goes w (here place s)) docs) (at (here place s) rows)) (λ row. refl) (insert_cores w place shards ns docs rows rising split).splits
 writes_split w place shards (Find ns wanted down limit) rows rising split = λ m is s.
@@ -326,7 +326,7 @@ sound_writes place shards reply write (Ok d) ids good m is =
     (rising_keyed write ids (laid_over [] d.changed) (rising_laid [] d.changed tt), named_writes place shards write ids (laid_over [] d.changed) (all_laid (λ id. times (place id) shards ≡ 1) [] d.changed tt good.1))
 sound_writes place shards reply write (Err e) ids good m is = cc
 
-sound_op : (w : Words) (place : Id → ℕ) (shards : List ℕ) (op : Op) (rows : List Row) → IsRising rows → IsSplit w place shards op rows → (m : OpReply × List Write) → eval_by w op rows ≡ Ok m → AreSound place shards m.1
+sound_op : (w : DocumentRules) (place : Id → ℕ) (shards : List ℕ) (op : Op) (rows : List Row) → IsRising rows → IsSplit w place shards op rows → (m : OpReply × List Write) → eval_by w op rows ≡ Ok m → AreSound place shards m.1
 sound_op w place shards (Insert ns docs) rows rising split = sound_writes place shards count_met (put_of ns) (through (insert_step w) laid_over docs rows) (λ row. refl) (insert_cores w place shards ns docs rows rising split).good
 sound_op w place shards (Find ns wanted down limit) rows rising split = λ m is.
     let one : (rows_of (found_by w 16000000 rows down limit (λ row. w.matches wanted row.1)), []) ≡ m = ok_is (rows_of (found_by w 16000000 rows down limit (λ row. w.matches wanted row.1)), []) m is in
@@ -338,7 +338,7 @@ part_writes : (p : Id → Bool) (writes : List Write) (part : Meaning) → AreWr
 part_writes p writes (Ok m) h = h
 part_writes p writes (Err e) h = absurd h
 
-pub writes_joined : (w : Words) (place : Id → ℕ) (shards : List ℕ) (op : Op) (rows : List Row) → IsRising rows → IsSplit w place shards op rows → WritesJoin w place shards op rows
+pub writes_joined : (w : DocumentRules) (place : Id → ℕ) (shards : List ℕ) (op : Op) (rows : List Row) → IsRising rows → IsSplit w place shards op rows → WritesJoin w place shards op rows
 writes_joined w place shards op rows rising split = λ m is.
     ap (joined []) (map_same (λ s. keyed (writes_of (parts_of w place op rows s))) (λ s. keyed (filter (λ wr. here place s (written_id wr)) m.1))
     (λ s. ap keyed (part_writes (here place s) m.1 (parts_of w place op rows s) (writes_split w place shards op rows rising split m is s))) shards)

@@ -14,7 +14,7 @@ use Rattle.txn_semantics.specs.Rows.{Row, holds_id}
 
 -- what is known of documents and decides what a statement does: which of them a filter matches, what an update makes of
 -- one, whether two have the same bytes, how many bytes one has, and its id
-pub record Words : Type 0 where
+pub record DocumentRules : Type 0 where
   pub matches : Filter → Document → Bool
   pub apply : Update → Document → Result Document What
   pub same : Document → Document → Bool
@@ -22,7 +22,7 @@ pub record Words : Type 0 where
   pub id_in : Document → Option Id
 
 -- each document has its row's id
-abbrev pub AreKnown : Words → List Row → Type 0
+abbrev pub AreKnown : DocumentRules → List Row → Type 0
 AreKnown w [] = Unit {0}
 AreKnown w (row ∷ rows) = (w.id_in row.1 ≡ Some row.0) × AreKnown w rows
 
@@ -67,29 +67,29 @@ insert_new item rows id =
     else Ok (record { met = (id, item.doc) ∷ []; changed = (id, item.doc) ∷ [] })
 
 -- an item is a document with an id; one without, which no insert holds, does nothing
-abbrev pub insert_step : Words → InsertItem → List Row → Doing
+abbrev pub insert_step : DocumentRules → InsertItem → List Row → Doing
 insert_step w item rows = elim (w.id_in item.doc) [ None ↦ Ok nothing | Some id ↦ insert_new item rows id ]
 
 -- the rows that an item meets: all that match, or the first of them
-abbrev pub matching : Words → Filter → List Row → List Row
+abbrev pub matching : DocumentRules → Filter → List Row → List Row
 matching w wanted rows = filter (λ row. w.matches wanted row.1) rows
 
-abbrev pub met_by : Words → Filter → Bool → List Row → List Row
+abbrev pub met_by : DocumentRules → Filter → Bool → List Row → List Row
 met_by w wanted many rows = if many then matching w wanted rows else take 1 (matching w wanted rows)
 
 -- a row that is met gets its new document; it is changed where that has other bytes
-abbrev pub updated : Words → UpdateItem → Row → Doing
+abbrev pub updated : DocumentRules → UpdateItem → Row → Doing
 updated w item row =
     elim (w.apply item.update row.1) [
       | Err what ↦ Err (record { index = item.index; id = row.0; what = what })
       | Ok doc ↦ Ok (record { met = row ∷ []; changed = if w.same row.1 doc then [] else ((row.0, doc) ∷ []) })
     ]
 
-abbrev pub update_step : Words → UpdateItem → List Row → Doing
+abbrev pub update_step : DocumentRules → UpdateItem → List Row → Doing
 update_step w item rows = each (updated w item) (met_by w item.filter item.many rows)
 
 -- a row that is met is taken away
-abbrev pub delete_step : Words → DeleteItem → List Row → Doing
+abbrev pub delete_step : DocumentRules → DeleteItem → List Row → Doing
 delete_step w item rows = Ok (record { met = met_by w item.filter item.many rows; changed = met_by w item.filter item.many rows })
 
 -- the rows without those

@@ -5,9 +5,9 @@ use Rattle.txn_types.specs.declared.operation.Op.{Op}
 use Rattle.txn_types.specs.declared.operation.Op.TheVariants.{Insert, Find, Update, Delete}
 use Rattle.txn_types.specs.declared.operation.OpReply.{OpReply}
 use Rattle.txn_types.specs.declared.operation.OpReply.TheVariants.{Count, Rows}
-use Rattle.txn_semantics.specs.Effect.{Words}
+use Rattle.txn_semantics.specs.Effect.{DocumentRules}
 use Rattle.txn_semantics.specs.Found.{Found, merged}
-use Rattle.txn_semantics.specs.Meaning.{capped, rows_of, words}
+use Rattle.txn_semantics.specs.Meaning.{capped, rows_of, document_rules}
 
 -- a sum that stands still at 2^63 - 1
 abbrev pub capped_sum : List ℕ → ℕ
@@ -29,7 +29,7 @@ found_of (Rows docs cut) = (docs, cut)
 abbrev pub merge_counts : List OpReply → OpReply
 merge_counts parts = Count (capped_sum (map n_of parts)) (capped_sum (map modified_of parts))
 
-abbrev pub merge_by : Words → Op → List OpReply → OpReply
+abbrev pub merge_by : DocumentRules → Op → List OpReply → OpReply
 merge_by w (Insert ns items) parts = merge_counts parts
 merge_by w (Find ns wanted down limit) parts = rows_of (merged w most_found down limit (map found_of parts))
 merge_by w (Update ns items) parts = merge_counts parts
@@ -37,4 +37,4 @@ merge_by w (Delete ns items) parts = merge_counts parts
 
 -- the reply over the joined rows
 abbrev pub merge : Op → List OpReply → OpReply
-merge op parts = merge_by words op parts
+merge op parts = merge_by document_rules op parts

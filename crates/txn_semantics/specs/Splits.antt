@@ -12,7 +12,7 @@ use Rattle.txn_types.specs.declared.operation.OpReply.{OpReply}
 use Rattle.txn_types.specs.declared.write.Write.{Write}
 use Rattle.txn_types.specs.declared.write.Write.TheVariants.{Put, Delete as Removed}
 use Rattle.txn_semantics.specs.Rows.{Row, laid_over, at}
-use Rattle.txn_semantics.specs.Effect.{Words, Done, Doing, AreKnown, matching, update_step, delete_step, without}
+use Rattle.txn_semantics.specs.Effect.{DocumentRules, Done, Doing, AreKnown, matching, update_step, delete_step, without}
 use Rattle.txn_semantics.specs.Found.{joined}
 use Rattle.txn_semantics.specs.Meaning.{Meaning, eval_by, reply_of, writes_of}
 use Rattle.txn_semantics.specs.Merge.{merge_by}
@@ -84,15 +84,15 @@ replies [] = []
 replies (m ∷ parts) = elim m [ Ok done ↦ done.0 ∷ replies parts | Err e ↦ replies parts ]
 
 -- what is told of the answers of several shards
-abbrev pub outcome : Words → Op → List Meaning → Result OpReply OpErr
+abbrev pub outcome : DocumentRules → Op → List Meaning → Result OpReply OpErr
 outcome w op parts = elim (least_err parts) [ None ↦ Ok (merge_by w op (replies parts)) | Some e ↦ Err e ]
 
 -- the document belongs where its id passes the test
-abbrev pub goes : Words → (Id → Bool) → InsertItem → Bool
+abbrev pub goes : DocumentRules → (Id → Bool) → InsertItem → Bool
 goes w p item = elim (w.id_in item.doc) [ None ↦ false | Some id ↦ p id ]
 
 -- the part of an operation that goes to a shard
-abbrev pub part_of : Words → (Id → Bool) → Op → Op
+abbrev pub part_of : DocumentRules → (Id → Bool) → Op → Op
 part_of w p (Insert ns docs) = Insert ns (filter (goes w p) docs)
 part_of w p (Find ns wanted down limit) = Find ns wanted down limit
 part_of w p (Update ns items) = Update ns items
@@ -104,23 +104,23 @@ written_id (Put ns id doc) = id
 written_id (Removed ns id) = id
 
 -- each document goes to a shard that is named once
-abbrev pub GoOnce : Words → (Id → ℕ) → List ℕ → List InsertItem → Type 0
+abbrev pub GoOnce : DocumentRules → (Id → ℕ) → List ℕ → List InsertItem → Type 0
 GoOnce w place shards [] = Unit {0}
 GoOnce w place shards (item ∷ items) = ((id : Id) → w.id_in item.doc ≡ Some id → times (place id) shards ≡ 1) × GoOnce w place shards items
 
 -- the rows that an item meets stand at shards that are named once, and at one shard where the item is for one document
-abbrev pub Meets : Words → (Id → ℕ) → List ℕ → Bool → List Row → Type 0
+abbrev pub Meets : DocumentRules → (Id → ℕ) → List ℕ → Bool → List Row → Type 0
 Meets w place shards many rows = OneMeetsOne place many rows × AreOnce place shards rows
 
 -- what a statement must keep to, over these rows, to be told from its parts
-abbrev pub IsSplit : Words → (Id → ℕ) → List ℕ → Op → List Row → Type 0
+abbrev pub IsSplit : DocumentRules → (Id → ℕ) → List ℕ → Op → List Row → Type 0
 IsSplit w place shards (Insert ns docs) rows = IndicesRise (λ item. item.index) docs × GoOnce w place shards docs
 IsSplit w place shards (Find ns wanted down limit) rows = AreKnown w rows × AreOnce place shards (matching w wanted rows)
 IsSplit w place shards (Update ns items) rows = IndicesRise (λ item. item.index) items × Along (λ item rows. Meets w place shards item.many (matching w item.filter rows)) (update_step w) laid_over items rows
 IsSplit w place shards (Delete ns items) rows = IndicesRise (λ item. item.index) items × Along (λ item rows. Meets w place shards item.many (matching w item.filter rows)) (delete_step w) without items rows
 
 -- the meanings of the parts
-abbrev pub parts_of : Words → (Id → ℕ) → Op → List Row → ℕ → Meaning
+abbrev pub parts_of : DocumentRules → (Id → ℕ) → Op → List Row → ℕ → Meaning
 parts_of w place op rows s = eval_by w (part_of w (here place s) op) (at (here place s) rows)
 
 -- the writes of a shard are those whose ids pass the test
@@ -129,11 +129,11 @@ AreWrites p writes (Ok m) = m.1 ≡ filter (λ write. p (written_id write)) writ
 AreWrites p writes (Err e) = ⊥
 
 -- each shard's writes are those of the whole that are placed there
-abbrev pub WritesSplit : Words → (Id → ℕ) → Op → List Row → Type 0
+abbrev pub WritesSplit : DocumentRules → (Id → ℕ) → Op → List Row → Type 0
 WritesSplit w place op rows = (m : OpReply × List Write) → eval_by w op rows ≡ Ok m → (s : ℕ) → AreWrites (here place s) m.1 (parts_of w place op rows s)
 
 -- what is told of the whole is what is told of the shards' answers
-abbrev pub RepliesMerge : Words → (Id → ℕ) → List ℕ → Op → List Row → Type 0
+abbrev pub RepliesMerge : DocumentRules → (Id → ℕ) → List ℕ → Op → List Row → Type 0
 RepliesMerge w place shards op rows = reply_of (eval_by w op rows) ≡ outcome w op (map (parts_of w place op rows) shards)
 
 -- writes under their ids
@@ -141,5 +141,5 @@ abbrev pub keyed : List Write → List (Id × Write)
 keyed writes = map (λ write. (written_id write, write)) writes
 
 -- the shards' writes, joined by id, are those of the whole
-abbrev pub WritesJoin : Words → (Id → ℕ) → List ℕ → Op → List Row → Type 0
+abbrev pub WritesJoin : DocumentRules → (Id → ℕ) → List ℕ → Op → List Row → Type 0
 WritesJoin w place shards op rows = (m : OpReply × List Write) → eval_by w op rows ≡ Ok m → joined [] (map (λ s. keyed (writes_of (parts_of w place op rows s))) shards) ≡ keyed m.1

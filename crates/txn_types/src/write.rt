@@ -1,5 +1,5 @@
 ghost use Rattle.std.specs.Prelude.{◌≡◌, [], ◌∷◌, ◌++◌, IfOk, OnOk, OnErr};
-ghost use Rattle.txn_types.specs.Writes.{IsKept, AllKept};
+ghost use Rattle.txn_types.specs.Writes.{HasOwnId, AllHaveOwnIds};
 
 use crate::id::Id;
 use crate::names::Ns;
@@ -50,11 +50,11 @@ impl Model for Writes {
 
     ghost coded = { Prim.hlevel (codes, value.the_row.coded) };
 
-    ghost use Rattle.txn_types.specs.Writes.{AllKept};
+    ghost use Rattle.txn_types.specs.Writes.{AllHaveOwnIds};
 
     ghost view = { λ w. w.writes.items };
 
-    ghost invariant = { λ w. AllKept w.writes.items };
+    ghost invariant = { λ w. AllHaveOwnIds w.writes.items };
 }
 
 impl Writes {
@@ -67,7 +67,7 @@ impl Writes {
     }
 
     pub fn push(&mut self, write: Write) -> Result<(), AllocError>
-        requires { IsKept write }
+        requires { HasOwnId write }
         ensures ok { OnOk result (self.new ≡ self.old ++ write ∷ []) }
         ensures err { OnErr result (self.new ≡ self.old) }
     {
@@ -77,7 +77,7 @@ impl Writes {
 
     pub fn as_slice(&self) -> &[Write]
         ensures writes { result.now ≡ self.now }
-        ensures kept { AllKept self.now }
+        ensures kept { AllHaveOwnIds self.now }
     {
         self.writes.as_slice()
     }

@@ -7,14 +7,14 @@ use Rattle.std.specs.declared.cmp.Ordering.{Ordering}
 use Rattle.std.specs.declared.cmp.Ordering.TheVariants.{Less, Equal, Greater}
 use Rattle.std.specs.Ordering.{is_eq}
 use Rattle.bson_core.specs.Fields.{Document}
-use Rattle.txn_types.specs.Writes.{IsKept, AllKept}
+use Rattle.txn_types.specs.Writes.{HasOwnId, AllHaveOwnIds}
 use Rattle.txn_types.specs.declared.id.Id.{Id}
 use Rattle.txn_types.specs.declared.names.Tag.{Tag}
 use Rattle.txn_types.specs.declared.write.Write.{Write}
 use Rattle.txn_types.specs.declared.write.Write.TheVariants.{Put, Delete}
 use Rattle.txn_semantics.specs.Effect.{AreKnown}
 use Rattle.txn_semantics.specs.Keyed.{put}
-use Rattle.txn_semantics.specs.Meaning.{words}
+use Rattle.txn_semantics.specs.Meaning.{document_rules}
 use Rattle.txn_semantics.specs.Rows.{Row}
 use Rattle.txn_semantics.specs.Touched.{Touched, touches}
 use Rattle.txn_semantics.specs.Writes.{Place, place_of, place_cmp}
@@ -105,11 +105,11 @@ pub ids_put : (place : Place) (V : List Version) (store : Versions) → HaveId p
 ids_put place V [] new has = (new, tt)
 ids_put place V (row ∷ rows) new has = put_case place V row rows (place_cmp place row.0) new has (ids_put place V rows new has.1)
 
-pub write_id : (write : Write) → IsKept write → HasId (place_of write).1 (content_of write)
+pub write_id : (write : Write) → HasOwnId write → HasId (place_of write).1 (content_of write)
 write_id (Put ns id doc) kept = kept
 write_id (Delete ns id) kept = tt
 
-pub ids_with : (tag : Tag) (store : Versions) (write : Write) → IsKept write → HaveIds store → HaveIds (with_write tag store write)
+pub ids_with : (tag : Tag) (store : Versions) (write : Write) → HasOwnId write → HaveIds store → HaveIds (with_write tag store write)
 ids_with tag store write kept has =
     ids_put (place_of write) (record { stamp = Unfinished tag; doc = content_of write } ∷ without tag (versions_of store (place_of write))) store
     (write_id write kept, ids_without tag (place_of write).1 (versions_of store (place_of write)) (ids_found (place_of write) store has)) has
@@ -141,11 +141,11 @@ doc_case id (Some v) h = h
 id_seen : (at : ℕ) (tag : Tag) (id : Id) (V : List Version) → HaveId id V → HasId id (seen at tag V)
 id_seen at tag id V has = doc_case id (seen_version at tag V) (or_case id (find (is_of tag) V) (find (is_committed_by at) V) (id_found id (is_of tag) V has) (id_found id (is_committed_by at) V has))
 
-row_case : (id : Id) (o : Option Document) (rows : List Row) → HasId id o → AreKnown words rows → AreKnown words (cons_option (option_map (λ (doc : Document). let row : Row = (id, doc) in row) o) rows)
+row_case : (id : Id) (o : Option Document) (rows : List Row) → HasId id o → AreKnown document_rules rows → AreKnown document_rules (cons_option (option_map (λ (doc : Document). let row : Row = (id, doc) in row) o) rows)
 row_case id None rows has more = more
 row_case id (Some doc) rows has more = (has, more)
 
-known_rows : (at : ℕ) (tag : Tag) (keys : Versions) → HaveIds keys → AreKnown words (rows_among at tag keys)
+known_rows : (at : ℕ) (tag : Tag) (keys : Versions) → HaveIds keys → AreKnown document_rules (rows_among at tag keys)
 known_rows at tag [] has = tt
 known_rows at tag (key ∷ keys) has = row_case key.0.1 (seen at tag key.1) (rows_among at tag keys) (id_seen at tag key.0.1 key.1 has.0) (known_rows at tag keys has.1)
 
@@ -154,5 +154,5 @@ ids_touched ns ids [] has = tt
 ids_touched ns ids (key ∷ store) has = left_case key (touched_keys store ns ids) (bytes_eq ns key.0.0 && touches ids key.0.1) has.0 (ids_touched ns ids store has.1)
 
 -- the rows of a scan
-pub rows_known : (ns : List ℕ) (ids : Touched) (at : ℕ) (tag : Tag) (store : Versions) → HaveIds store → AreKnown words (rows_among at tag (touched_keys store ns ids))
+pub rows_known : (ns : List ℕ) (ids : Touched) (at : ℕ) (tag : Tag) (store : Versions) → HaveIds store → AreKnown document_rules (rows_among at tag (touched_keys store ns ids))
 rows_known ns ids at tag store has = known_rows at tag (touched_keys store ns ids) (ids_touched ns ids store has)

@@ -17,7 +17,7 @@ use Rattle.txn_types.specs.declared.id.Id.{Id}
 use Rattle.txn_types.specs.declared.names.Tag.{Tag}
 use Rattle.txn_types.specs.declared.write.Write.{Write}
 use Rattle.txn_types.specs.Writes as txn
-use Rattle.txn_types.specs.Writes.{AllKept}
+use Rattle.txn_types.specs.Writes.{AllHaveOwnIds}
 use Rattle.txn_types.proofs.Orders.{tag_total, tag_exact}
 use Rattle.txn_semantics.specs.Keyed.{put, Rises}
 use Rattle.txn_semantics.specs.Writes.{Place, place_of, place_cmp}
@@ -244,14 +244,14 @@ pub record IsLaying (tag : Tag) (store : Versions) (laid : List Laid) (left : Li
   pub forth : with_writes tag store left ≡ with_writes tag begun writes
   pub back : all_taken_back tag laid store ≡ begun
   pub free : AreFree tag store left
-  pub known : AllKept left
+  pub known : AllHaveOwnIds left
   pub had : HadIds laid
   pub kept : IsKept store
 
-pub laying_begun : (tag : Tag) (store : Versions) (writes : List Write) → AreFree tag store writes → AllKept writes → IsKept store → IsLaying tag store [] writes store writes
+pub laying_begun : (tag : Tag) (store : Versions) (writes : List Write) → AreFree tag store writes → AllHaveOwnIds writes → IsKept store → IsLaying tag store [] writes store writes
 laying_begun tag store writes free known kept = record { forth = refl; back = refl; free = free; known = known; had = tt; kept = kept }
 
-kept_behind : (tag : Tag) (store : Versions) (write : Write) → IsKept store → txn.IsKept write → Free tag (versions_of store (place_of write)) → IsKept (with_write tag store write)
+kept_behind : (tag : Tag) (store : Versions) (write : Write) → IsKept store → txn.HasOwnId write → Free tag (versions_of store (place_of write)) → IsKept (with_write tag store write)
 kept_behind tag store write kept known free =
     let place : Place = place_of write in
     let line : Line = version_of tag write ∷ without tag (versions_of store place) in

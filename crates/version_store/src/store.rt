@@ -16,7 +16,7 @@ ghost use Rattle.std.specs.Prelude.{
 };
 ghost use Rattle.std.specs.List.{filter_map};
 ghost use Rattle.std.specs.Option.{option_copied};
-ghost use Rattle.txn_types.specs.Writes.{AllKept, IsKept as IsKeptWrite};
+ghost use Rattle.txn_types.specs.Writes.{AllHaveOwnIds, HasOwnId as IsKeptWrite};
 ghost use Rattle.txn_semantics.specs.Keyed.{put};
 ghost use Rattle.txn_semantics.specs.Writes.{place_of, place_cmp};
 ghost use Rattle.version_store.specs.Versions.{
@@ -271,7 +271,7 @@ impl Store {
     /// changed.
     pub fn put_all(&mut self, tag: Tag, writes: &[Write]) -> Result<(), AllocError>
         requires free { AreFree tag self.old writes.now }
-        requires kept { AllKept writes.now }
+        requires kept { AllHaveOwnIds writes.now }
         ensures ok { OnOk result (self.new ≡ with_writes tag self.old writes.now) }
         ensures err { OnErr result (self.new ≡ self.old) }
     {

@@ -1,5 +1,5 @@
 ghost use Rattle.std.specs.Prelude.{◌≡◌, ◌++◌, map, IfOk, OnOk};
-ghost use Rattle.txn_types.specs.Writes.{IsKept, AllKept};
+ghost use Rattle.txn_types.specs.Writes.{HasOwnId, AllHaveOwnIds};
 ghost use Rattle.txn_semantics.specs.Keyed.{put, laid};
 ghost use Rattle.txn_semantics.specs.Writes.{place_of, place_cmp, placed, write_set};
 
@@ -19,7 +19,7 @@ struct Kept {
 impl Model for Kept {
     ghost use Rattle.std.specs.Coded.{codes};
     ghost use Rattle.bson_core.specs.contracts.value.Value as value;
-    ghost use Rattle.txn_types.specs.Writes.{IsKept};
+    ghost use Rattle.txn_types.specs.Writes.{HasOwnId};
     ghost use Rattle.txn_types.specs.declared.write.Write.{Write};
 
     ghost Value = { Write };
@@ -28,12 +28,12 @@ impl Model for Kept {
 
     ghost view = { λ k. k.write };
 
-    ghost invariant = { λ k. IsKept k.write };
+    ghost invariant = { λ k. HasOwnId k.write };
 }
 
 impl Kept {
     fn new(write: Write) -> Kept
-        requires { IsKept write }
+        requires { HasOwnId write }
         ensures { result ≡ write }
     {
         Kept { write }
@@ -41,7 +41,7 @@ impl Kept {
 
     fn into_write(self) -> Write
         ensures write { result ≡ self }
-        ensures kept { IsKept self }
+        ensures kept { HasOwnId self }
     {
         self.write
     }
@@ -59,7 +59,7 @@ pub fn key_of(alloc: Global, write: &Write) -> Result<Key, AllocError>
 
 /// Lays a copy of the write over those in the map.
 fn lay(rows: &mut BTreeMap<Place, Kept>, alloc: Global, write: &Write) -> Result<(), AllocError>
-    requires { IsKept write.now }
+    requires { HasOwnId write.now }
     ensures { OnOk result (rows.new.entries ≡ put place_cmp (place_of write.now) write.now rows.old.entries) }
 {
     let key = key_of(alloc, write)?;
@@ -82,7 +82,7 @@ fn lay_all(
     alloc: Global,
     writes: &[Write],
 ) -> Result<(), AllocError>
-    requires { AllKept writes.now }
+    requires { AllHaveOwnIds writes.now }
     ensures { OnOk result (rows.new.entries ≡ laid place_cmp rows.old.entries (map placed writes.now)) }
 {
     for write in writes {
@@ -105,7 +105,7 @@ fn unloaded(alloc: Global, mut rows: BTreeMap<Place, Kept>) -> Result<Writes, Al
 
 /// The last write to each document, of some writes and of those behind them, rising by namespace and id.
 pub fn merged(alloc: Global, own: &[Write], writes: &Writes) -> Result<Writes, AllocError>
-    requires { AllKept own.now }
+    requires { AllHaveOwnIds own.now }
     ensures { IfOk result (λ all. all ≡ write_set (own.now ++ writes.now)) }
 {
     let mut rows = BTreeMap::new(alloc);

@@ -1,5 +1,5 @@
 use Rattle.std.proofs.Common.{ℕ, ◌≤◌, List, Option, Err, length, refl, sym, ap, subst, arith}
-use Rattle.outcomes.specs.Told.{Told}
+use Rattle.outcomes.specs.Told.{WhereKnown}
 use Rattle.outside_core.specs.Bytes.{Went, WentInPart}
 use Rattle.txn_semantics.specs.declared.commits.Entry.{Entry}
 use Rattle.play_script.specs.declared.input.End.{End}

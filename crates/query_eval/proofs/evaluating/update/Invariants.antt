@@ -1,10 +1,10 @@
 use Rattle.std.proofs.Common.{drop}
 use Rattle.txn_semantics.specs.Effect.{update_step}
-use Rattle.txn_semantics.specs.Meaning.{words}
+use Rattle.txn_semantics.specs.Meaning.{document_rules}
 use Rattle.txn_semantics.specs.Rows.{laid_over}
 use Rattle.query_eval.specs.Acts.{put_content}
 use Rattle.query_eval.proofs.Operating.{SoFar}
 use Rattle.query_eval.proofs.evaluating.update.Given as goal
 
 abbrev pub invariant-loop-item : goal.invariant-loop-item
-invariant-loop-item l = SoFar (update_step words) put_content laid_over l.items (drop l.item-index l.items) l.fn.rows.items l.rows.items l.n l.modified
+invariant-loop-item l = SoFar (update_step document_rules) put_content laid_over l.items (drop l.item-index l.items) l.fn.rows.items l.rows.items l.n l.modified

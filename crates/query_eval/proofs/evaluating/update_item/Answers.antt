@@ -1,6 +1,6 @@
 use Rattle.std.proofs.Common.{◌<◌, length, refl, subst, Ok, get_or, arith}
 use Rattle.txn_semantics.specs.Effect.{updated}
-use Rattle.txn_semantics.specs.Meaning.{words}
+use Rattle.txn_semantics.specs.Meaning.{document_rules}
 use Rattle.txn_semantics.specs.Rows.{laid_over}
 use Rattle.query_eval.specs.Acts.{Changed, Changes, put_content}
 use Rattle.query_eval.proofs.Acting.{walk_start}
@@ -9,7 +9,7 @@ use Rattle.query_eval.proofs.Turning.{update_missed, update_met, update_one, upd
 use Rattle.query_eval.proofs.evaluating.update_item.Goals as goal
 
 pub loop-row-init : goal.loop-row-init
-loop-row-init c = walk_start (updated words c.args.item.now) c.args.item.now.filter c.args.item.now.many put_content laid_over c.args.rows.now (λ rows. refl) c.requires.rising c.requires.known
+loop-row-init c = walk_start (updated document_rules c.args.item.now) c.args.item.now.filter c.args.item.now.many put_content laid_over c.args.rows.now (λ rows. refl) c.requires.rising c.requires.known
 
 pub returns-in-Err : goal.returns-in-Err
 returns-in-Err c =

@@ -1,7 +1,7 @@
 use Rattle.std.proofs.Common.{Some, ap, sym, ◌∙◌}
 use Rattle.txn_types.specs.Ids.{id_in}
 use Rattle.txn_semantics.specs.Effect.{AreKnown}
-use Rattle.txn_semantics.specs.Meaning.{words}
+use Rattle.txn_semantics.specs.Meaning.{document_rules}
 use Rattle.txn_semantics.specs.Rows.{IsRising}
 use Rattle.txn_semantics.proofs.Parts.{rising_put}
 use Rattle.txn_semantics.proofs.Routing.{known_put}
@@ -13,5 +13,5 @@ invariant_of-self c =
     let rows = c.self.inside.rows.items in
     let has_id = ap id_in c.in_ok-doc.ensures ∙ c.requires ∙ ap Some (sym c.in_ok-id.ensures) in (
       either_way IsRising c.put.result c.put.new.rows.items _ rows c.put.ensures.ok c.put.ensures.err (rising_put _ _ rows c.self.invariant.0) c.self.invariant.0,
-      either_way (AreKnown words) c.put.result c.put.new.rows.items _ rows c.put.ensures.ok c.put.ensures.err (known_put words _ _ rows has_id c.self.invariant.1) c.self.invariant.1,
+      either_way (AreKnown document_rules) c.put.result c.put.new.rows.items _ rows c.put.ensures.ok c.put.ensures.err (known_put document_rules _ _ rows has_id c.self.invariant.1) c.self.invariant.1,
     )

@@ -1,6 +1,6 @@
 use Rattle.std.proofs.Common.{ap, sym, subst, ◌∙◌, List}
 use Rattle.txn_semantics.specs.Effect.{AreKnown}
-use Rattle.txn_semantics.specs.Meaning.{words}
+use Rattle.txn_semantics.specs.Meaning.{document_rules}
 use Rattle.txn_semantics.specs.Rows.{Row, IsRising, delete_row}
 use Rattle.txn_semantics.proofs.Parts.{rising_taken_out}
 use Rattle.row_tables.specs.declared.table.Table.{Table}
@@ -10,7 +10,7 @@ use Rattle.row_tables.proofs.table.Table.take_out.Goals as goal
 pub invariant_of-self : goal.invariant_of-self
 invariant_of-self c = (
   subst IsRising (sym c.take_out.ensures) (rising_taken_out c.args.id.now c.self.inside.rows.items c.self.invariant.0),
-  subst (AreKnown words) (sym c.take_out.ensures) (known_taken c.args.id.now c.self.inside.rows.items c.self.invariant.1),
+  subst (AreKnown document_rules) (sym c.take_out.ensures) (known_taken c.args.id.now c.self.inside.rows.items c.self.invariant.1),
 )
 
 pub returns : goal.returns

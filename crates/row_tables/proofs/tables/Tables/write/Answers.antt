@@ -1,5 +1,5 @@
 use Rattle.std.proofs.Common.{subst, ap, sym, ◌∙◌}
-use Rattle.txn_types.specs.Writes.{IsKept, AllKept}
+use Rattle.txn_types.specs.Writes.{HasOwnId, AllHaveOwnIds}
 use Rattle.txn_semantics.specs.Rows.{written}
 use Rattle.row_tables.specs.Tables.{rows_of}
 use Rattle.row_tables.proofs.Laid.{under_more, kept_at}
@@ -7,9 +7,9 @@ use Rattle.row_tables.proofs.tables.Tables.write.Goals as goal
 
 pub lay-requires : goal.lay-requires
 lay-requires c =
-    subst IsKept (sym c.write-item.is)
+    subst HasOwnId (sym c.write-item.is)
     (kept_at c.as_slice-write-items.result.now c.loop-write.write-index c.write-item.result
-    (subst AllKept (sym c.as_slice-write-items.ensures.writes) c.as_slice-write-items.ensures.kept)
+    (subst AllHaveOwnIds (sym c.as_slice-write-items.ensures.writes) c.as_slice-write-items.ensures.kept)
     c.loop-write-test.true)
 
 pub loop-write-preserved : goal.loop-write-preserved
