@@ -17,4 +17,3 @@ was_read (Err d) x e = absurd cc
 pub was_name : {A : Type 0} (r : Result A BsonErr) (x : A) → as_section r ≡ Ok x → r ≡ Ok x
 was_name (Ok y) x e = ap (λ z. Ok z) (ok_is y x e)
 was_name (Err d) x e = absurd cc
-
