@@ -1,6 +1,8 @@
--- What is said of the statements that a router sends and waits for, and how its sessions go on: numbers rise, a transaction
--- that was begun stays until its session's number rises, and the place of its newest statement never falls.
-use Rattle.std.specs.Prelude.{◌≡◌, ◌≤◌, ◌⊎◌, ◌<ℤ◌, ◌+◌, ℕ, ℤ, Bool, true, false, List, All, Some, Result, Ok, Err}
+-- What is said of the statements that a router sends and waits for, and how its sessions go on:
+-- numbers rise, a transaction that was begun stays until its session's number rises, and the place
+-- of its newest statement never falls.
+use Rattle.std.specs.Prelude.{◌≡◌, ◌≤◌, ◌⊎◌, ◌<ℤ◌, ◌+◌, ℕ, ℤ, Bool, true, false, List, All, Some}
+use Rattle.std.specs.Prelude.{Result, Ok, Err}
 use Rattle.txn_types.specs.declared.message.Statement.{Statement}
 use Rattle.txn_types.specs.declared.names.Tag.{Tag}
 use Rattle.txn_types.specs.declared.node.Lsid.{Lsid}
@@ -58,13 +60,15 @@ SameDoing (Sought seeking known) other = Unit {0}
 abbrev pub GoesOn : Session → Session → Type 0
 GoesOn a b = (a.number <ℤ b.number) ⊎ ((b.number ≡ a.number) × SameDoing a.doing b.doing)
 
-pub record DeedFits (Q : ℕ → Statement → Type 0) (lsid : Lsid) (old : Session) (d : Deed) : Type 0 where
+pub record DeedFits (Q : ℕ → Statement → Type 0) (lsid : Lsid) (old : Session)
+    (d : Deed) : Type 0 where
   pub doing : DoingFits Q d.session.doing
   pub given : GivenFit Q d.given
   pub goes : GoesOn old d.session
 
 abbrev pub AllGo : RouterState → RouterState → Type 0
-AllGo s t = (lsid : Lsid) (old : Session) → session_of s lsid ≡ Some old → (new : Session) × (session_of t lsid ≡ Some new) × GoesOn old new
+AllGo s t = (lsid : Lsid) (old : Session) → session_of s lsid ≡ Some old
+    → (new : Session) × (session_of t lsid ≡ Some new) × GoesOn old new
 
 pub record MoveFits (Q : ℕ → Statement → Type 0) (s : RouterState) (m : Move) : Type 0 where
   pub chunks : m.state.chunks ≡ s.chunks
@@ -78,15 +82,18 @@ IsIn tag k (Begun t) = (t.tag ≡ tag) × (k ≤ t.k)
 IsIn tag k (Sought seeking known) = ⊥
 
 abbrev pub HasCome : RouterState → Named → ℕ → Type 0
-HasCome s x k = (session : Session) × (session_of s x.lsid ≡ Some session) × ((x.number <ℤ session.number) ⊎ ((session.number ≡ x.number) × IsIn x.tag k session.doing))
+HasCome s x k = (session : Session) × (session_of s x.lsid ≡ Some session)
+    × ((x.number <ℤ session.number) ⊎ ((session.number ≡ x.number) × IsIn x.tag k session.doing))
 
 -- What a request asks of shards, where it is a statement.
 
 abbrev pub AskFits : (ℕ → Statement → Type 0) → RouterState → Asker → Request → Type 0
-AskFits Q s asker (request.Statement op txn at after more time) = AllFit Q (statement (met s time after) asker txn op at).given.sends
+AskFits Q s asker (request.Statement op txn at after more time) =
+    AllFit Q (statement (met s time after) asker txn op at).given.sends
 AskFits Q s asker other = Unit {0}
 
-abbrev pub AskedFits : (ℕ → Statement → Type 0) → RouterState → ℕ → List ℕ → Result Request Unserved → Type 0
+abbrev pub AskedFits : (ℕ → Statement → Type 0) → RouterState → ℕ → List ℕ
+    → Result Request Unserved → Type 0
 AskedFits Q s conn bytes (Ok asked) = AskFits Q s (asker_by conn bytes) asked
 AskedFits Q s conn bytes (Err why) = Unit {0}
 
@@ -95,7 +102,8 @@ Unless true T = Unit {0}
 Unless false T = T
 
 abbrev pub HappenedFits : (ℕ → Statement → Type 0) → RouterState → Happening → Type 0
-HappenedFits Q s (what.Client conn bytes) = Unless (is_waiting s conn) (AskedFits Q s conn bytes (asked_in s.wall bytes))
+HappenedFits Q s (what.Client conn bytes) =
+    Unless (is_waiting s conn) (AskedFits Q s conn bytes (asked_in s.wall bytes))
 HappenedFits Q s other = Unit {0}
 
 abbrev pub EventFits : (ℕ → Statement → Type 0) → Bool → RouterState → NodeEvent → Type 0
@@ -104,7 +112,8 @@ EventFits Q want s e = Unless want (HappenedFits Q (walled s e.wall) e.what)
 abbrev pub NoStatement : ℕ → Statement → Type 0
 NoStatement shard m = ⊥
 
--- What a statement that was taken asks of its shards: it is the next of its session's transaction, or of one that it begins.
+-- What a statement that was taken asks of its shards: it is the next of its session's transaction,
+-- or of one that it begins.
 pub record Asks (r : RouterState) (op : Op) (m : Move) : Type 0 where
   pub lsid : Lsid
   pub number : ℤ

@@ -1,4 +1,5 @@
--- Where an answered statement comes from: a statement that a router opened, and an Answer of each shard that it was sent to.
+-- Where an answered statement comes from: a statement that a router opened, and an Answer of each
+-- shard that it was sent to.
 use Rattle.std.specs.Prelude.{◌≡◌, ℕ, List, [], ◌∷◌, Some, All, Contains, is_some, length, true}
 use Rattle.txn_types.specs.declared.message.Answer.{Answer}
 use Rattle.txn_types.specs.declared.message.Envelope.{Envelope}
@@ -29,8 +30,8 @@ pub record Comes (sent : List Envelope) (begun : List Unanswered) (u : Unanswere
   pub opened : Contains begun (as_opened u)
   pub answers : All (IsGiven sent u) u.answers
 
--- An answered statement is what the Answers of as many shards say as it was sent to, each its reply or the statement's own
--- refusal.
+-- An answered statement is what the Answers of as many shards say as it was sent to, each its reply
+-- or the statement's own refusal.
 pub record IsAnswered (sent : List Envelope) (begun : List Unanswered) (a : Answered) : Type 0 where
   pub statement : Unanswered
   pub is : a ≡ answered_of statement

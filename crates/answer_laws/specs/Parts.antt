@@ -25,7 +25,8 @@ abbrev pub SentFit : (ℕ → Statement → Type 0) → List Envelope → Type 0
 SentFit Q out = All (λ e. SentTo Q e.to e.msg) out
 
 -- The statement for a shard is the shard's part of one that a router opened for a request.
-pub record IsPart (chunks : Map) (begun : List Unanswered) (shard : ℕ) (m : Statement) : Type 0 where
+pub record IsPart (chunks : Map) (begun : List Unanswered) (shard : ℕ)
+    (m : Statement) : Type 0 where
   pub statement : Unanswered
   pub opened : Contains begun statement
   pub asked : Contains statement.shards shard

@@ -18,4 +18,13 @@ unfolding binary
 length_binary b = grind (arith, common_steps)
 
 -- the length of a value's bytes, at the kinds whose values have several lengths
-pub ruleset length_coded = (coded_text, coded_doc, coded_list, coded_bin, coded_oid, length_text, length_framed, length_binary)
+pub ruleset length_coded = (
+  coded_text,
+  coded_doc,
+  coded_list,
+  coded_bin,
+  coded_oid,
+  length_text,
+  length_framed,
+  length_binary,
+)

@@ -9,17 +9,23 @@ use Rattle.bson_core.specs.declared.value.Value.TheViews as views
 use Rattle.bson_core.specs.declared.value.Value.TheVariants as variants
 use Rattle.bson_core.specs.declared.value.Value.TheFolds.{fold-roll-Value}
 use Rattle.bson_core.specs.Fields.{Document}
-use Rattle.bson_core.specs.Spelling.{Coded, coded_step, coded, element, elements, numbered, framed, text, binary}
+use Rattle.bson_core.specs.Spelling.{Coded, coded_step, coded, element, elements, numbered, framed}
+use Rattle.bson_core.specs.Spelling.{text, binary}
 
-elements_are : (fields : Document) → flat_map element (map (λ (field : List ℕ × Value). (field.0, coded field.1)) fields) ≡ elements fields
+elements_are : (fields : Document) → flat_map element
+    (map (λ (field : List ℕ × Value). (field.0, coded field.1)) fields) ≡ elements fields
 elements_are [] = refl
-elements_are (field ∷ fields) = flat_map-cons element (field.0, coded field.1) (map (λ (x : List ℕ × Value). (x.0, coded x.1)) fields) ∙ ap (λ (t : List ℕ). element (field.0, coded field.1) ++ t) (elements_are fields)
+elements_are (field ∷ fields) = flat_map-cons element (field.0, coded field.1)
+    (map (λ (x : List ℕ × Value). (x.0, coded x.1)) fields)
+    ∙ ap (λ (t : List ℕ). element (field.0, coded field.1) ++ t) (elements_are fields)
 
 pub coded_doc : (fields : Document) → coded (views.Doc fields) ≡ (3, framed (elements fields))
 unfolding views.roll-Value denote.Hole.Carrier.roll
-coded_doc fields = fold-roll-Value Coded coded_step (of.Doc fields) ∙ ap (λ (t : List ℕ). (3, framed t)) (elements_are fields)
+coded_doc fields = fold-roll-Value Coded coded_step (of.Doc fields)
+    ∙ ap (λ (t : List ℕ). (3, framed t)) (elements_are fields)
 
-pub coded_list : (values : List Value) → coded (views.List values) ≡ (4, framed (numbered 0 (map coded values)))
+pub coded_list : (values : List Value)
+    → coded (views.List values) ≡ (4, framed (numbered 0 (map coded values)))
 unfolding views.roll-Value denote.Hole.Carrier.roll
 coded_list values = fold-roll-Value Coded coded_step (of.List values)
 

@@ -1,5 +1,6 @@
 -- A kind has one type byte, and no two kinds have the same.
-use Rattle.std.proofs.Common.{◌≡◌, ℕ, Bool, true, false, cond, eqb, Option, Some, refl, sym, ap, ◌∙◌}
+use Rattle.std.proofs.Common.{◌≡◌, ℕ, Bool, true, false, cond, eqb, Option, Some, refl, sym, ap}
+use Rattle.std.proofs.Common.{◌∙◌}
 use Rattle.std.proofs.lemmas.Bool.{eqb-true, ne_eqb}
 use Rattle.bson_core.specs.declared.kind.Leaf.TheVariants as leaf
 use Rattle.bson_core.specs.declared.kind.Kind.{Kind}
@@ -7,7 +8,9 @@ use Rattle.bson_core.specs.declared.kind.Kind.TheVariants as kind
 use Rattle.bson_core.specs.Kinds.{kind_byte, kind_of}
 
 -- one test of the byte, and what the others find
-here_or_behind : (b : Bool) (byte n : ℕ) (first found : Kind) (others : Option Kind) → eqb byte n ≡ b → kind_byte first ≡ n → (others ≡ Some found → kind_byte found ≡ byte) → cond b (Some first) others ≡ Some found → kind_byte found ≡ byte
+here_or_behind : (b : Bool) (byte n : ℕ) (first found : Kind) (others : Option Kind)
+    → eqb byte n ≡ b → kind_byte first ≡ n → (others ≡ Some found → kind_byte found ≡ byte)
+    → cond b (Some first) others ≡ Some found → kind_byte found ≡ byte
 here_or_behind true byte n first found others test is behind e =
     let same : first ≡ found = cc in
     ap kind_byte (sym same) ∙ is ∙ sym (eqb-true byte n test)
@@ -30,4 +33,5 @@ kind_found byte found =
 
 -- no kind has the byte that ends a document
 pub not_the_end : (byte : ℕ) (found : Kind) → kind_of byte ≡ Some found → eqb byte 0 ≡ false
-not_the_end byte found e = ne_eqb _ _ (λ is. let none : kind_of 0 ≡ Some found = sym (ap kind_of is) ∙ e in absurd cc)
+not_the_end byte found e =
+    ne_eqb _ _ (λ is. let none : kind_of 0 ≡ Some found = sym (ap kind_of is) ∙ e in absurd cc)

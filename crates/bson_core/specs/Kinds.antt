@@ -1,5 +1,5 @@
--- The kinds of values that a document holds, by the type bytes of BSON 1.1 (bsonspec.org). Any other type byte, such
--- as 01 for a double, is the type of no value here.
+-- The kinds of values that a document holds, by the type bytes of BSON 1.1 (bsonspec.org). Any
+-- other type byte, such as 01 for a double, is the type of no value here.
 use Rattle.std.specs.Prelude.{ℕ, Option, Some, None, ◌==◌, if◌then◌else◌}
 use Rattle.bson_core.specs.declared.kind.Leaf.{Leaf}
 use Rattle.bson_core.specs.declared.kind.Leaf.TheVariants as leaf

@@ -1,4 +1,5 @@
--- Names of fields. In BSON 1.1 (bsonspec.org) a name is a cstring: bytes in UTF-8 that are no 00, and then a 00.
+-- Names of fields. In BSON 1.1 (bsonspec.org) a name is a cstring: bytes in UTF-8 that are no 00,
+-- and then a 00.
 use Rattle.std.specs.Prelude.{◌≡◌, ℕ, ◌==◌, Bool, true, not, List}
 use Rattle.std.specs.List.{list_all}
 use Rattle.std.specs.Str.{is_utf8}

@@ -12,7 +12,8 @@ abbrev pub greatest : List ℕ → ℕ
 greatest [] = 0
 greatest (n ∷ ns) = max n (greatest ns)
 
--- the levels of a value: a document or a list is one level more than what it holds, any other value is none
+-- the levels of a value: a document or a list is one level more than what it holds, any other value
+-- is none
 abbrev pub levels_step : Value-F ℕ → ℕ
 levels_step (of.Doc fields) = 1 + greatest (map (λ field. field.1) fields)
 levels_step (of.List values) = 1 + greatest values

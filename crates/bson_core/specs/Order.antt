@@ -1,6 +1,7 @@
--- The order of values. It goes by bracket, that is by the kind, where the two kinds of numbers are in one bracket: a
--- number is compared by its value, whatever its kind. The MongoDB manual's comparison order of BSON types is the model;
--- the brackets are this project's own. `Less` stands for "comes before", `Equal` for "in the same place".
+-- The order of values. It goes by bracket, that is by the kind, where the two kinds of numbers are
+-- in one bracket: a number is compared by its value, whatever its kind. The MongoDB manual's
+-- comparison order of BSON types is the model; the brackets are this project's own. `Less` stands
+-- for "comes before", `Equal` for "in the same place".
 use Rattle.std.specs.Prelude.{ℕ, ℤ, pos, true, List, [], ◌∷◌, map, length}
 use Rattle.std.specs.declared.cmp.Ordering.{Ordering}
 use Rattle.std.specs.declared.cmp.Ordering.TheVariants.{Less, Equal, Greater}
@@ -62,10 +63,17 @@ abbrev pub parts_cmp : List (List ℕ × Place) → List (List ℕ × Value) →
 parts_cmp [] [] = Equal
 parts_cmp [] (y ∷ ys) = Less
 parts_cmp (x ∷ xs) [] = Greater
-parts_cmp (x ∷ xs) (y ∷ ys) = ordering_then (nat_cmp x.1.0 (bracket y.1)) (ordering_then (slice_cmp nat_cmp x.0 y.0) (ordering_then (x.1.1 y.1) (parts_cmp xs ys)))
+parts_cmp (x ∷ xs) (y ∷ ys) = ordering_then (nat_cmp x.1.0 (bracket y.1))
+    (ordering_then (slice_cmp nat_cmp x.0 y.0) (ordering_then (x.1.1 y.1) (parts_cmp xs ys)))
 
 abbrev pub place_step : Value-F Place → Place
-place_step x = (bracket_of x, λ other. ordering_then (nat_cmp (bracket_of x) (bracket other)) (ordering_then (int_cmp (number_of x) (number_of (out-Value other))) (ordering_then (slice_cmp nat_cmp (bytes_of x) (bytes_of (out-Value other))) (parts_cmp (parts_of x) (parts_of (out-Value other))))))
+place_step x = (
+  bracket_of x,
+  λ other. ordering_then (nat_cmp (bracket_of x) (bracket other))
+      (ordering_then (int_cmp (number_of x) (number_of (out-Value other)))
+      (ordering_then (slice_cmp nat_cmp (bytes_of x) (bytes_of (out-Value other)))
+      (parts_cmp (parts_of x) (parts_of (out-Value other))))),
+)
 
 abbrev pub place : Value → Place
 place = fold-Value Place place_step

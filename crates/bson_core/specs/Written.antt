@@ -1,4 +1,5 @@
--- What is written of a value or of a document is in the grammar, where its levels and its length allow it.
+-- What is written of a value or of a document is in the grammar, where its levels and its length
+-- allow it.
 use Rattle.std.specs.Prelude.{ℕ, ◌≤◌, List, length}
 use Rattle.bson_core.specs.declared.value.Value.{Value}
 use Rattle.bson_core.specs.Names.{IsName}
@@ -11,7 +12,8 @@ abbrev pub most : ℕ
 most = 2147483647
 
 abbrev pub IsWritten : Value → Type 0
-IsWritten value = (depth : ℕ) → levels value ≤ depth → length (coded value).1 ≤ most → ReadsAt depth value (coded value).0 (coded value).1
+IsWritten value = (depth : ℕ) → levels value ≤ depth → length (coded value).1 ≤ most
+    → ReadsAt depth value (coded value).0 (coded value).1
 
 -- a name, and a value that is written so
 abbrev pub IsFieldWritten : List ℕ × Value → Type 0

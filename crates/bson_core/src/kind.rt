@@ -24,8 +24,8 @@ pub enum Kind {
 }
 
 impl Kind {
-    /// The kind with that type byte, which are those of BSON 1.1 but for doubles, decimals, regular expressions, code
-    /// and what is out of use.
+    /// The kind with that type byte, which are those of BSON 1.1 but for doubles, decimals, regular
+    /// expressions, code and what is out of use.
     pub fn of(byte: u8) -> Option<Kind>
         ensures { result ≡ kind_of byte }
     {

@@ -95,7 +95,8 @@ fn first_zero(bytes: &[u8]) -> Option<usize>
 
 /// The bytes as text.
 fn text_in(bytes: &[u8]) -> Option<&str>
-    ensures { MatchOption result (is_utf8 bytes.now ≡ false) (λ s. (is_utf8 bytes.now ≡ true) × (s.now ≡ bytes.now)) }
+    ensures { MatchOption result (is_utf8 bytes.now ≡ false)
+        (λ s. (is_utf8 bytes.now ≡ true) × (s.now ≡ bytes.now)) }
 {
     match str::from_utf8(bytes) {
         Ok(text) => Some(text),
@@ -103,7 +104,8 @@ fn text_in(bytes: &[u8]) -> Option<&str>
     }
 }
 
-/// The name at the front of the bytes, and what stands behind the 00 that ends it. It is `Short` where there is no 00, and
+/// The name at the front of the bytes, and what stands behind the 00 that ends it. It is `Short`
+/// where there is no 00, and
 /// `Text` where it is no UTF-8; its place counts so that the bytes end at `last_at`.
 #[tactic(auto, unfolding(crate::specs::Reading::name_at))]
 pub fn front_name(alloc: Global, last_at: u64, bytes: &[u8]) -> Result<(Name, &[u8]), BsonErr>
@@ -261,7 +263,8 @@ fn read_value(
     last_at: u64,
     bytes: &[u8],
 ) -> Result<(Value, &[u8]), BsonErr>
-    ensures { Gives (λ x. (x.0, x.1.now)) result (value_by (nested_at levels) kind last_at bytes.now) }
+    ensures { Gives (λ x. (x.0, x.1.now)) result
+        (value_by (nested_at levels) kind last_at bytes.now) }
 {
     match kind {
         Kind::Doc => {
@@ -304,7 +307,8 @@ fn read_document(
     last_at: u64,
     bytes: &[u8],
 ) -> Result<(Vec<(Name, Value)>, &[u8]), BsonErr>
-    ensures { Gives (λ x. (x.0.items, x.1.now)) result (document_at (value_by (nested_at levels)) last_at bytes.now) }
+    ensures { Gives (λ x. (x.0.items, x.1.now)) result
+        (document_at (value_by (nested_at levels)) last_at bytes.now) }
 {
     let start = start_of(last_at, bytes);
     let (count, rest) = read_count(last_at, bytes)?;
@@ -328,7 +332,8 @@ fn read_document(
     Ok((fields, after))
 }
 
-/// The elements of the document whose count is at `start`, and its last byte, which is at `last_at`.
+/// The elements of the document whose count is at `start`, and its last byte, which is at
+/// `last_at`.
 #[cycle(value)]
 #[tactic(auto, unfolding(crate::specs::Reading::body_at))]
 fn read_body(
@@ -339,7 +344,8 @@ fn read_body(
     inside: &[u8],
     last: u8,
 ) -> Result<Vec<(Name, Value)>, BsonErr>
-    ensures { Gives (λ x. x.items) result (body_at (value_by (nested_at levels)) start last_at inside.now last) }
+    ensures { Gives (λ x. x.items) result
+        (body_at (value_by (nested_at levels)) start last_at inside.now last) }
 {
     let fields = read_elements(alloc, levels, start, last_at, inside)?;
     if last != 0 {
@@ -358,7 +364,8 @@ fn read_element(
     last_at: u64,
     bytes: &[u8],
 ) -> Result<Option<((Name, Value), &[u8])>, BsonErr>
-    ensures { Gives (option_map (λ x. (x.0, x.1.now))) result (element_at (value_by (nested_at levels)) start last_at bytes.now) }
+    ensures { Gives (option_map (λ x. (x.0, x.1.now))) result
+        (element_at (value_by (nested_at levels)) start last_at bytes.now) }
 {
     let Some((byte, after)) = bytes.split_first() else {
         return Ok(None);
@@ -372,8 +379,8 @@ fn read_element(
     Ok(Some(((name, value), after)))
 }
 
-/// The elements that are all of the bytes. Each byte is looked at once for each part that it belongs to, a name or a
-/// value, and not again for the documents around it.
+/// The elements that are all of the bytes. Each byte is looked at once for each part that it
+/// belongs to, a name or a value, and not again for the documents around it.
 #[cycle(value)]
 fn read_elements(
     alloc: Global,
@@ -382,7 +389,8 @@ fn read_elements(
     last_at: u64,
     bytes: &[u8],
 ) -> Result<Vec<(Name, Value)>, BsonErr>
-    ensures { Gives (λ x. x.items) result (elements_at (value_by (nested_at levels)) start last_at (length bytes.now + 1) bytes.now) }
+    ensures { Gives (λ x. x.items) result
+        (elements_at (value_by (nested_at levels)) start last_at (length bytes.now + 1) bytes.now) }
 {
     let mut fields = Vec::new(alloc);
     let mut rest = bytes;
@@ -422,11 +430,13 @@ fn read_whole(alloc: Global, bytes: &[u8], limit: u32) -> Result<Doc, BsonErr>
     Ok(Items::from_vec(fields))
 }
 
-/// Reads one document, which is all of the bytes, at most `limit` of them and at most 2,147,483,647. It may have 100
-/// levels of documents and lists, itself included. Names of a list are taken as they come.
+/// Reads one document, which is all of the bytes, at most `limit` of them and at most
+/// 2,147,483,647. It may have 100 levels of documents and lists, itself included. Names of a list
+/// are taken as they come.
 ///
-/// Otherwise the first fault is answered that is met front to back, with its place in the bytes: of an element its type
-/// byte, then its name, then its value; of a document its last byte when its elements have reached it.
+/// Otherwise the first fault is answered that is met front to back, with its place in the bytes: of
+/// an element its type byte, then its name, then its value; of a document its last byte when its
+/// elements have reached it.
 ///
 /// It goes through the bytes once, and takes no memory for a count before its bytes stand.
 pub fn decode(alloc: Global, bytes: &[u8], limit: u32) -> Result<Doc, BsonErr>
@@ -435,7 +445,8 @@ pub fn decode(alloc: Global, bytes: &[u8], limit: u32) -> Result<Doc, BsonErr>
     // What is read is in the grammar.
     ensures found { IfOk result (λ d. Reads 100 d bytes.now × (length bytes.now ≤ limit)) }
     // What is in the grammar is read, unless memory runs out.
-    ensures only { (d : Document) → Reads 100 d bytes.now → length bytes.now ≤ limit → Gives (λ d. d) result (Ok d) }
+    ensures only { (d : Document) → Reads 100 d bytes.now → length bytes.now ≤ limit
+        → Gives (λ d. d) result (Ok d) }
 {
     read_whole(alloc, bytes, limit)
 }

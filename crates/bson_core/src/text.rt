@@ -44,7 +44,8 @@ impl Text {
     }
 }
 
-/// The name of a field, which contracts see as its bytes, in UTF-8. No byte of it is 00, since a 00 ends it.
+/// The name of a field, which contracts see as its bytes, in UTF-8. No byte of it is 00, since a 00
+/// ends it.
 #[derive(Debug, Drop)]
 pub struct Name {
     string: String,

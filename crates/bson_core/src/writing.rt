@@ -44,7 +44,8 @@ fn put_binary(out: &mut Vec<u8>, bin: &Bin) -> Result<(), AllocError>
 #[tactic(auto, unfolding(crate::specs::Spelling::framed))]
 fn close_document(out: &mut Vec<u8>, start: usize) -> Result<(), AllocError>
     requires { start + 4 ≤ vec_len out.old }
-    ensures { OnOk result (out.new.items ≡ take start out.old.items ++ framed (drop (start + 4) out.old.items)) }
+    ensures { OnOk result
+        (out.new.items ≡ take start out.old.items ++ framed (drop (start + 4) out.old.items)) }
 {
     out.push(0)?;
     let count = (out.len() - start) as u64;
@@ -71,8 +72,8 @@ fn kind_of(value: &Value) -> u8
     }
 }
 
-/// A document or a list opens with a count that is set at its end, so that each byte is written once at any
-/// nesting.
+/// A document or a list opens with a count that is set at its end, so that each byte is written
+/// once at any nesting.
 #[cycle(put)]
 #[tactic(auto, using(crate::proofs::Spelled::coded_doc, crate::proofs::Spelled::coded_list))]
 fn put_value(out: &mut Vec<u8>, value: &Value) -> Result<(), AllocError>
@@ -138,7 +139,8 @@ fn put_document(out: &mut Vec<u8>, fields: &[(Name, Value)]) -> Result<(), Alloc
 #[cycle(put)]
 #[tactic(auto, using(crate::proofs::Lengths::length_framed))]
 fn put_list(out: &mut Vec<u8>, values: &[Value]) -> Result<(), AllocError>
-    ensures { OnOk result (out.new.items ≡ out.old.items ++ framed (numbered 0 (map coded values.now))) }
+    ensures { OnOk result
+        (out.new.items ≡ out.old.items ++ framed (numbered 0 (map coded values.now))) }
 {
     let start = out.len();
     out.extend_from_slice(&[0; 4])?;
@@ -146,8 +148,9 @@ fn put_list(out: &mut Vec<u8>, values: &[Value]) -> Result<(), AllocError>
     close_document(out, start)
 }
 
-/// Appends the document's bytes, in its one spelling, however long that is. What doesn't fit into a count's int32
-/// is left away there, so only a document of at most 2,147,483,647 bytes is read again. Once through the document.
+/// Appends the document's bytes, in its one spelling, however long that is. What doesn't fit into a
+/// count's int32 is left away there, so only a document of at most 2,147,483,647 bytes is read
+/// again. Once through the document.
 ///
 /// Where memory runs out, a front of the bytes may have been appended.
 pub fn append(doc: &Doc, out: &mut Vec<u8>) -> Result<(), AllocError>
@@ -156,11 +159,12 @@ pub fn append(doc: &Doc, out: &mut Vec<u8>) -> Result<(), AllocError>
     put_document(out, doc.as_slice())
 }
 
-/// Appends the document's bytes, in its one spelling. It goes through the document twice, whatever its
-/// nesting: once for its size, once for its bytes.
+/// Appends the document's bytes, in its one spelling. It goes through the document twice, whatever
+/// its nesting: once for its size, once for its bytes.
 pub fn encode(alloc: Global, doc: &Doc, out: &mut Vec<u8>) -> Result<(), BsonErr>
     ensures ok { OnOk result (out.new.items ≡ out.old.items ++ spelling doc.now) }
-    // It is refused exactly where the spelling is longer than its count can say, or memory runs out.
+    // It is refused exactly where the spelling is longer than its count can say, or memory runs
+    // out.
     ensures too_large { result ≡ Err BsonErr.TooLarge → MOST < length (spelling doc.now) }
     ensures large { MOST < length (spelling doc.now) → (result ≡ Err BsonErr.TooLarge) }
     ensures refused { OnErr result (out.new.items ≡ out.old.items) }

@@ -13,11 +13,13 @@ pub value_text_doc : (fields : Document) → value_text (views.Doc fields) ≡ d
 unfolding views.roll-Value denote.Hole.Carrier.roll
 value_text_doc fields = fold-roll-Value (List ℕ) text_step (of.Doc fields)
 
-pub value_text_list : (values : List Value) → value_text (views.List values) ≡ bracketed (map value_text values)
+pub value_text_list : (values : List Value)
+    → value_text (views.List values) ≡ bracketed (map value_text values)
 unfolding views.roll-Value denote.Hole.Carrier.roll
 value_text_list values = fold-roll-Value (List ℕ) text_step (of.List values)
 
-pub value_text_oid : (bytes : List ℕ) → value_text (variants.Oid bytes) ≡ codes "o:" ++ hex_digits bytes
+pub value_text_oid : (bytes : List ℕ)
+    → value_text (variants.Oid bytes) ≡ codes "o:" ++ hex_digits bytes
 unfolding views.roll-Value denote.Hole.Carrier.roll
 value_text_oid bytes = fold-roll-Value (List ℕ) text_step (of.Oid bytes)
 

@@ -1,7 +1,8 @@
--- The text of values and documents: one line, as its bytes in UTF-8. From JSON (RFC 8259) it takes the marks around
--- texts, documents and lists, and how a character is escaped. The other kinds have forms of this project's own, so that
--- each kind can be told from the others.
-use Rattle.std.specs.Prelude.{ℕ, ◌/◌, ◌%◌, ◌^◌, ◌≤◌, ◌==◌, nat_lt, true, false, if◌then◌else◌, List, [], ◌∷◌, ◌++◌, map, codes}
+-- The text of values and documents: one line, as its bytes in UTF-8. From JSON (RFC 8259) it takes
+-- the marks around texts, documents and lists, and how a character is escaped. The other kinds have
+-- forms of this project's own, so that each kind can be told from the others.
+use Rattle.std.specs.Prelude.{ℕ, ◌/◌, ◌%◌, ◌^◌, ◌≤◌, ◌==◌, nat_lt, true, false, if◌then◌else◌, List}
+use Rattle.std.specs.Prelude.{[], ◌∷◌, ◌++◌, map, codes}
 use Rattle.std.specs.Char.{digit_char}
 use Rattle.std.specs.Fmt.{decimal, signed_decimal}
 use Rattle.std.specs.List.{All, flat_map, join_by}
@@ -17,8 +18,8 @@ use Rattle.bson_core.specs.Fields.{Document}
 abbrev pub hex_digits : List ℕ → List ℕ
 hex_digits bytes = flat_map (λ b. digit_char (b / 16) ∷ digit_char (b % 16) ∷ []) bytes
 
--- a byte of a text in quotes: a quote and a backslash get a backslash in front, and a control byte is written by its
--- number. The bytes of a character outside ASCII are all above these, and stay.
+-- a byte of a text in quotes: a quote and a backslash get a backslash in front, and a control byte
+-- is written by its number. The bytes of a character outside ASCII are all above these, and stay.
 abbrev pub escaped : ℕ → List ℕ
 escaped b =
     if b == byte "\"" then codes "\\\""

@@ -27,7 +27,8 @@ fn put_hex(out: &mut String, bytes: &[u8]) -> Result<(), AllocError>
 
 /// Appends a character of a quoted text.
 fn put_char(out: &mut String, c: char) -> Result<(), AllocError>
-    ensures { OnOk result (string_bytes out.new ≡ string_bytes out.old ++ flat_map escaped (encode_utf8 c)) }
+    ensures { OnOk result
+        (string_bytes out.new ≡ string_bytes out.old ++ flat_map escaped (encode_utf8 c)) }
 {
     match c {
         '"' => out.push_str("\\\""),
@@ -70,7 +71,8 @@ fn put_timestamp(out: &mut String, stamp: u64) -> Result<(), AllocError>
 
 /// Appends what stands between a piece and the one in front of it, if there is one.
 fn put_separator(out: &mut String, place: usize) -> Result<(), AllocError>
-    ensures { OnOk result (string_bytes out.new ≡ string_bytes out.old ++ (if place == 0 then [] else codes ", ")) }
+    ensures { OnOk result
+        (string_bytes out.new ≡ string_bytes out.old ++ (if place == 0 then [] else codes ", ")) }
 {
     if place > 0 {
         out.push_str(", ")?;
@@ -110,7 +112,8 @@ fn put_value(out: &mut String, value: &Value) -> Result<(), AllocError>
 
 #[cycle(put)]
 fn put_field(out: &mut String, name: &str, value: &Value) -> Result<(), AllocError>
-    ensures { OnOk result (string_bytes out.new ≡ string_bytes out.old ++ field_text (name.now, value_text value.now)) }
+    ensures { OnOk result (string_bytes out.new
+        ≡ string_bytes out.old ++ field_text (name.now, value_text value.now)) }
 {
     put_quoted(out, name)?;
     out.push_str(": ")?;
@@ -119,7 +122,8 @@ fn put_field(out: &mut String, name: &str, value: &Value) -> Result<(), AllocErr
 
 #[cycle(put)]
 fn put_document(out: &mut String, fields: &[(Name, Value)]) -> Result<(), AllocError>
-    ensures { OnOk result (string_bytes out.new ≡ string_bytes out.old ++ document_text fields.now) }
+    ensures { OnOk result
+        (string_bytes out.new ≡ string_bytes out.old ++ document_text fields.now) }
 {
     out.push('{')?;
     for (place, (name, value)) in fields.iter().enumerate() {
@@ -131,7 +135,8 @@ fn put_document(out: &mut String, fields: &[(Name, Value)]) -> Result<(), AllocE
 
 #[cycle(put)]
 fn put_list(out: &mut String, values: &[Value]) -> Result<(), AllocError>
-    ensures { OnOk result (string_bytes out.new ≡ string_bytes out.old ++ bracketed (map value_text values.now)) }
+    ensures { OnOk result
+        (string_bytes out.new ≡ string_bytes out.old ++ bracketed (map value_text values.now)) }
 {
     out.push('[')?;
     for (place, value) in values.iter().enumerate() {

@@ -1,6 +1,6 @@
-//! What the programs of cases have in common: names, operations, replies and causes as text, and the documents and
-//! operations that the lines of their files name. No clause speaks of a text here: the files of cases hold what each
-//! program is to say, word by word.
+//! What the programs of cases have in common: names, operations, replies and causes as text, and
+//! the documents and operations that the lines of their files name. No clause speaks of a text
+//! here: the files of cases hold what each program is to say, word by word.
 #![tactic(auto)]
 
 mod contents;

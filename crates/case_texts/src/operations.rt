@@ -1,5 +1,5 @@
-//! The documents and operations that cases name: a document is `{_id: ID, a: A}`, and an operation speaks of one
-//! collection, and of the document of an id or of all.
+//! The documents and operations that cases name: a document is `{_id: ID, a: A}`, and an operation
+//! speaks of one collection, and of the document of an id or of all.
 ghost use Rattle.std.specs.Prelude.{IfOk, IsSome};
 ghost use Rattle.txn_types.specs.Ids.{id_in};
 

@@ -14,14 +14,18 @@ ghost use Rattle.chunk_map.specs.Place.{shard_of, shards_for};
 ghost use Rattle.chunk_map.specs.Parts.{shards_of, has_spread};
 ghost use Rattle.chunk_laws.specs.Routing.{IndicesOfItemsRise};
 
-/// The shard of a document that a filter matches is one of those that are asked for it, and is named there once.
+/// The shard of a document that a filter matches is one of those that are asked for it, and is
+/// named there once.
 pub fn what_matches_is_asked_for()
-    ensures { (m : Map) (ns : List ℕ) (wanted : Filter) (id : Id) (doc : Document) → IsMap m → id_in doc ≡ Some id → matches wanted doc ≡ true
+    ensures { (m : Map) (ns : List ℕ) (wanted : Filter) (id : Id) (doc : Document) → IsMap m
+        → id_in doc ≡ Some id → matches wanted doc ≡ true
         → times (shard_of m ns id) (shards_for m ns wanted) ≡ 1 }
 {}
 
-/// A statement whose items for one document have each one shard, as a router sees to, is sent where its filters and documents
-/// belong, so that what is told of its parts is what is told of the whole.
+/// A statement whose items for one document have each one shard, as a router sees to, is sent where
+/// its filters and documents belong, so that what is told of its parts is what is told of the
+/// whole.
 pub fn a_statement_is_routed()
-    ensures { (m : Map) (op : Op) → IsMap m → IndicesOfItemsRise op → has_spread m op ≡ false → IsRouted document_rules (shard_of m (ns_of op)) (shards_of m op) op }
+    ensures { (m : Map) (op : Op) → IsMap m → IndicesOfItemsRise op → has_spread m op ≡ false
+        → IsRouted document_rules (shard_of m (ns_of op)) (shards_of m op) op }
 {}

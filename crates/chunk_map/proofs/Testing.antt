@@ -1,5 +1,6 @@
 -- The equations of the id test at each kind of filter.
-use Rattle.std.proofs.Common.{◌≡◌, ℕ, Bool, List, [], ◌∷◌, ◌++◌, Option, Some, None, map, refl, ap, ◌∙◌, append_assoc, if◌then◌else◌}
+use Rattle.std.proofs.Common.{◌≡◌, ℕ, Bool, List, [], ◌∷◌, ◌++◌, Option, Some, None, map, refl, ap}
+use Rattle.std.proofs.Common.{◌∙◌, append_assoc, if◌then◌else◌}
 use Rattle.std.specs.Str.{bytes_eq}
 use Rattle.bson_core.specs.declared.value.Value.{Value}
 use Rattle.txn_types.specs.Ids.{id_of, id_name}
@@ -15,7 +16,8 @@ use Rattle.txn_types.specs.declared.filter.Filter.TheFolds.{fold-roll-Filter}
 use Rattle.txn_semantics.specs.Touched.{Touched, ids_among, first_some, id_test_step, id_test}
 use Rattle.chunk_map.specs.Place.{test_of}
 
-pub id_test_and : (filters : List Filter) → id_test (views.And filters) ≡ first_some (map id_test filters)
+pub id_test_and : (filters : List Filter)
+    → id_test (views.And filters) ≡ first_some (map id_test filters)
 unfolding views.roll-Filter denote.Hole.Carrier.roll id_test
 id_test_and filters = fold-roll-Filter Touched id_test_step (asks.And filters)
 
@@ -27,7 +29,8 @@ pub id_test_nor : (filters : List Filter) → id_test (views.Nor filters) ≡ No
 unfolding views.roll-Filter denote.Hole.Carrier.roll id_test
 id_test_nor filters = fold-roll-Filter Touched id_test_step (asks.Nor filters)
 
-pub id_test_test : (name : List ℕ) (cmp : Cmp) (value : Value) → id_test (leaves.Test name cmp value) ≡ test_of name cmp value
+pub id_test_test : (name : List ℕ) (cmp : Cmp) (value : Value)
+    → id_test (leaves.Test name cmp value) ≡ test_of name cmp value
 unfolding views.roll-Filter denote.Hole.Carrier.roll id_test
 id_test_test name Eq value = fold-roll-Filter Touched id_test_step (asks.Test name Eq value)
 id_test_test name Ne value = fold-roll-Filter Touched id_test_step (asks.Test name Ne value)
@@ -36,7 +39,8 @@ id_test_test name Gte value = fold-roll-Filter Touched id_test_step (asks.Test n
 id_test_test name Lt value = fold-roll-Filter Touched id_test_step (asks.Test name Lt value)
 id_test_test name Lte value = fold-roll-Filter Touched id_test_step (asks.Test name Lte value)
 
-pub id_test_in : (name : List ℕ) (values : List Value) → id_test (leaves.In name values) ≡ (if bytes_eq name id_name then Some (ids_among values) else None)
+pub id_test_in : (name : List ℕ) (values : List Value) → id_test (leaves.In name values)
+    ≡ (if bytes_eq name id_name then Some (ids_among values) else None)
 unfolding views.roll-Filter denote.Hole.Carrier.roll id_test
 id_test_in name values = fold-roll-Filter Touched id_test_step (asks.In name values)
 
@@ -52,5 +56,7 @@ cons_one : (o : Option Id) (ids : List Id) → cons_option o [] ++ ids ≡ cons_
 cons_one None ids = refl
 cons_one (Some id) ids = refl
 
-pub ids_step : (front : List Id) (value : Value) (values : List Value) → (front ++ ids_among (value ∷ [])) ++ ids_among values ≡ front ++ ids_among (value ∷ values)
-ids_step front value values = append_assoc front (ids_among (value ∷ [])) (ids_among values) ∙ ap (λ ids. front ++ ids) (cons_one (id_of value) (ids_among values))
+pub ids_step : (front : List Id) (value : Value) (values : List Value)
+    → (front ++ ids_among (value ∷ [])) ++ ids_among values ≡ front ++ ids_among (value ∷ values)
+ids_step front value values = append_assoc front (ids_among (value ∷ [])) (ids_among values)
+    ∙ ap (λ ids. front ++ ids) (cons_one (id_of value) (ids_among values))

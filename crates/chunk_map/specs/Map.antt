@@ -1,6 +1,7 @@
--- Which rows make a map. The rows of a namespace are ranges of ids: each begins at an id, and goes on to where the next
--- begins; the first begins before all ids.
-use Rattle.std.specs.Prelude.{◌≡◌, ℕ, ◌+◌, List, [], ◌∷◌, ◌++◌, filter, Option, Some, None, Result, Ok, Err, nat_lt, if◌then◌else◌}
+-- Which rows make a map. The rows of a namespace are ranges of ids: each begins at an id, and goes
+-- on to where the next begins; the first begins before all ids.
+use Rattle.std.specs.Prelude.{◌≡◌, ℕ, ◌+◌, List, [], ◌∷◌, ◌++◌, filter, Option, Some, None, Result}
+use Rattle.std.specs.Prelude.{Ok, Err, nat_lt, if◌then◌else◌}
 use Rattle.std.specs.Option.{option_or}
 use Rattle.std.specs.Ordering.{is_lt}
 use Rattle.std.specs.Str.{bytes_eq}
@@ -38,12 +39,14 @@ beginning_fault place (Some before) (Some id) = elim (before.from) [
 -- what is wrong with a row at its place, behind those rows
 abbrev pub row_fault : ℕ → ℕ → List ChunkRow → ChunkRow → Option MapErr
 row_fault shards place before row =
-    option_or (beginning_fault place (last_range (ranges_of row.ns before)) row.from) (if nat_lt row.shard shards then None else Some (NoShard place))
+    option_or (beginning_fault place (last_range (ranges_of row.ns before)) row.from)
+    (if nat_lt row.shard shards then None else Some (NoShard place))
 
 -- the first fault of rows, from that place on, behind those rows
 abbrev pub fault_behind : ℕ → ℕ → List ChunkRow → List ChunkRow → Option MapErr
 fault_behind shards place before [] = None
-fault_behind shards place before (row ∷ rows) = option_or (row_fault shards place before row) (fault_behind shards (place + 1) (before ++ row ∷ []) rows)
+fault_behind shards place before (row ∷ rows) = option_or (row_fault shards place before row)
+    (fault_behind shards (place + 1) (before ++ row ∷ []) rows)
 
 -- the first fault of a map's rows, which are counted from 0
 abbrev pub first_fault : ℕ → List ChunkRow → Option MapErr

@@ -22,7 +22,8 @@ begins_by id (Some from) = is_le (id_cmp from id)
 -- the shard of the last of these ranges that begins at or below the id, or that one where none does
 abbrev pub shard_in : ℕ → Id → List ChunkRow → ℕ
 shard_in shard id [] = shard
-shard_in shard id (row ∷ rows) = shard_in (if begins_by id row.from then row.shard else shard) id rows
+shard_in shard id (row ∷ rows) =
+    shard_in (if begins_by id row.from then row.shard else shard) id rows
 
 -- the shard that keeps the document of this id; a namespace without ranges is on shard 0
 abbrev pub shard_of : Map → List ℕ → Id → ℕ
@@ -38,7 +39,8 @@ abbrev pub or_first : List ℕ → List ℕ
 or_first [] = 0 ∷ []
 or_first (n ∷ ns) = n ∷ ns
 
--- by the ids that a filter asks for: their shards, or where it asks for all every shard with a range
+-- by the ids that a filter asks for: their shards, or where it asks for all every shard with a
+-- range
 abbrev pub shards_by : Map → List ℕ → Touched → List ℕ
 shards_by m ns (Some ids) = or_first (rising (map (shard_of m ns) ids))
 shards_by m ns None = or_first (rising (map (λ row. row.shard) (ranges_of ns m.rows)))

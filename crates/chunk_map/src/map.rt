@@ -7,8 +7,8 @@ use std::alloc::{AllocError, AllocFailed, Global};
 use std::marker::Model;
 use txn_types::{Id, Ns};
 
-/// A range of a namespace's ids: from this one on, or from before all of them, to where the next row of the namespace
-/// begins; and the shard that keeps their documents.
+/// A range of a namespace's ids: from this one on, or from before all of them, to where the next
+/// row of the namespace begins; and the shard that keeps their documents.
 #[derive(Drop)]
 pub struct ChunkRow {
     pub ns: Ns,
@@ -77,7 +77,8 @@ impl Model for ChunkMap {
 }
 
 impl ChunkMap {
-    /// The map of these rows, over that many shards; or what is wrong with the first row at fault. It takes no memory.
+    /// The map of these rows, over that many shards; or what is wrong with the first row at fault.
+    /// It takes no memory.
     pub fn new(shards: u16, rows: Vec<ChunkRow>) -> Result<ChunkMap, MapErr>
         ensures { result ≡ map_of shards rows.items }
     {

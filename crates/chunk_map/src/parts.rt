@@ -1,5 +1,5 @@
-//! Where statements go: the documents of an insert each to its shard, and every other operation whole to the shards of
-//! its filters, taken together.
+//! Where statements go: the documents of an insert each to its shard, and every other operation
+//! whole to the shards of its filters, taken together.
 use crate::map::ChunkMap;
 use crate::place::rising;
 use std::alloc::{AllocError, Global};
@@ -21,7 +21,8 @@ impl ChunkMap {
         ns: &Ns,
         items: &[InsertItem],
     ) -> Result<Vec<u16>, AllocError>
-        ensures { IfOk result (λ v. v.items ≡ filter_map (λ item. option_map (shard_of self.now ns.now) (id_in item.doc)) items.now) }
+        ensures { IfOk result (λ v. v.items ≡ filter_map
+            (λ item. option_map (shard_of self.now ns.now) (id_in item.doc)) items.now) }
     {
         let mut shards = Vec::new(alloc);
         for item in items {
@@ -39,7 +40,8 @@ impl ChunkMap {
         ns: &Ns,
         items: &[UpdateItem],
     ) -> Result<Vec<u16>, AllocError>
-        ensures { IfOk result (λ v. v.items ≡ flat_map (λ item. shards_for self.now ns.now item.filter) items.now) }
+        ensures { IfOk result
+            (λ v. v.items ≡ flat_map (λ item. shards_for self.now ns.now item.filter) items.now) }
     {
         let mut shards = Vec::new(alloc);
         for item in items {
@@ -56,7 +58,8 @@ impl ChunkMap {
         ns: &Ns,
         items: &[DeleteItem],
     ) -> Result<Vec<u16>, AllocError>
-        ensures { IfOk result (λ v. v.items ≡ flat_map (λ item. shards_for self.now ns.now item.filter) items.now) }
+        ensures { IfOk result
+            (λ v. v.items ≡ flat_map (λ item. shards_for self.now ns.now item.filter) items.now) }
     {
         let mut shards = Vec::new(alloc);
         for item in items {
@@ -96,7 +99,8 @@ impl ChunkMap {
         items: &[InsertItem],
         shard: u16,
     ) -> Result<InsertItems, AllocError>
-        ensures { IfOk result (λ i. i ≡ filter (goes document_rules (here (shard_of self.now ns.now) shard)) items.now) }
+        ensures { IfOk result (λ i. i
+            ≡ filter (goes document_rules (here (shard_of self.now ns.now) shard)) items.now) }
     {
         let mut kept = InsertItems::new(alloc);
         for item in items {
@@ -146,7 +150,8 @@ impl ChunkMap {
         ns: &Ns,
         items: &[UpdateItem],
     ) -> Result<bool, AllocError>
-        ensures { IfOk result (λ b. b ≡ list_any (λ item. is_spread self.now ns.now item.many item.filter) items.now) }
+        ensures { IfOk result (λ b. b
+            ≡ list_any (λ item. is_spread self.now ns.now item.many item.filter) items.now) }
     {
         for item in items {
             if self.is_spread(alloc, ns, item.many, &item.filter)? {
@@ -162,7 +167,8 @@ impl ChunkMap {
         ns: &Ns,
         items: &[DeleteItem],
     ) -> Result<bool, AllocError>
-        ensures { IfOk result (λ b. b ≡ list_any (λ item. is_spread self.now ns.now item.many item.filter) items.now) }
+        ensures { IfOk result (λ b. b
+            ≡ list_any (λ item. is_spread self.now ns.now item.many item.filter) items.now) }
     {
         for item in items {
             if self.is_spread(alloc, ns, item.many, &item.filter)? {

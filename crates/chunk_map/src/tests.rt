@@ -42,7 +42,8 @@ fn test_of(
     cmp: Cmp,
     value: &Value,
 ) -> Result<Option<Vec<Id>>, AllocError>
-    ensures { IfOk result (λ test. option_map (λ v. v.items) test ≡ test_of name.now cmp value.now) }
+    ensures { IfOk result
+        (λ test. option_map (λ v. v.items) test ≡ test_of name.now cmp value.now) }
 {
     match cmp {
         Cmp::Eq => {
@@ -60,7 +61,8 @@ fn test_of(
 
 /// The id test of a field that is to be one of the values.
 fn test_among(alloc: Global, name: &str, values: &[Value]) -> Result<Option<Vec<Id>>, AllocError>
-    ensures { IfOk result (λ test. option_map (λ v. v.items) test ≡ (if bytes_eq name.now id_name then Some (ids_among values.now) else None)) }
+    ensures { IfOk result (λ test. option_map (λ v. v.items) test
+        ≡ (if bytes_eq name.now id_name then Some (ids_among values.now) else None)) }
 {
     if name == "_id" {
         Ok(Some(ids_among(alloc, values)?))
@@ -69,9 +71,9 @@ fn test_among(alloc: Global, name: &str, values: &[Value]) -> Result<Option<Vec<
     }
 }
 
-/// The ids of the filter's id test, which is the first comparison of `_id` for equality, or the first `$in` of it, that is
-/// the filter itself or is reached from it through `$and` alone; None where there is no such test, so that all ids are
-/// asked for.
+/// The ids of the filter's id test, which is the first comparison of `_id` for equality, or the
+/// first `$in` of it, that is the filter itself or is reached from it through `$and` alone; None
+/// where there is no such test, so that all ids are asked for.
 #[cycle(id_test)]
 #[tactic(auto, using(crate::proofs::Testing::id_test_and, crate::proofs::Testing::id_test_or, crate::proofs::Testing::id_test_nor, crate::proofs::Testing::id_test_test, crate::proofs::Testing::id_test_in, crate::proofs::Testing::id_test_nin, crate::proofs::Testing::id_test_exists))]
 pub fn id_test(alloc: Global, filter: &Filter) -> Result<Option<Vec<Id>>, AllocError>
@@ -89,7 +91,8 @@ pub fn id_test(alloc: Global, filter: &Filter) -> Result<Option<Vec<Id>>, AllocE
 /// The first id test of the filters.
 #[cycle(id_test)]
 fn first_test(alloc: Global, filters: &[Filter]) -> Result<Option<Vec<Id>>, AllocError>
-    ensures { IfOk result (λ test. option_map (λ v. v.items) test ≡ first_some (map id_test filters.now)) }
+    ensures { IfOk result
+        (λ test. option_map (λ v. v.items) test ≡ first_some (map id_test filters.now)) }
 {
     for filter in filters {
         if let Some(ids) = id_test(alloc, filter)? {

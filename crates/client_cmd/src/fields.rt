@@ -59,7 +59,8 @@ fn starts_in(body: &Doc) -> bool
 
 /// The transaction that a command is of whose session was checked.
 pub fn txn_in(body: &Doc) -> Option<Txn>
-    requires { (v : AnyValue) → value_of (codes "lsid") body.now ≡ Some v → session_in (codes "lsid") (out-Value v) ≡ Ok None }
+    requires { (v : AnyValue) → value_of (codes "lsid") body.now ≡ Some v
+        → session_in (codes "lsid") (out-Value v) ≡ Ok None }
     ensures { result ≡ txn_in body.now }
 {
     let lsid = get(body, "lsid")?;
@@ -73,7 +74,8 @@ pub fn txn_in(body: &Doc) -> Option<Txn>
 
 /// The transaction that a statement is of, whose session was checked.
 pub fn statement_txn(frame: &Frame) -> Option<Txn>
-    requires { (v : AnyValue) → value_of (codes "lsid") frame.now.body ≡ Some v → session_in (codes "lsid") (out-Value v) ≡ Ok None }
+    requires { (v : AnyValue) → value_of (codes "lsid") frame.now.body ≡ Some v
+        → session_in (codes "lsid") (out-Value v) ≡ Ok None }
     ensures { result ≡ statement_txn frame.now }
 {
     if is_in_transaction(frame) {
@@ -95,8 +97,10 @@ pub fn token_under(body: &Doc) -> Option<Token>
 
 /// The sessions that the values are, which were checked.
 fn sessions_of(alloc: Global, values: &[Value]) -> Result<Lsids, AllocError>
-    requires { check_each (λ value. session_in (codes "lsid") (out-Value value)) values.now ≡ Ok None }
-    ensures { IfOk result (λ ids. ids ≡ filter_map (λ value. Some (session_by (out-Value value))) values.now) }
+    requires { check_each (λ value. session_in (codes "lsid") (out-Value value)) values.now
+        ≡ Ok None }
+    ensures { IfOk result
+        (λ ids. ids ≡ filter_map (λ value. Some (session_by (out-Value value))) values.now) }
 {
     let mut ids = Vec::new(alloc);
     for value in values {
@@ -128,7 +132,8 @@ fn sessions_in(alloc: Global, value: &Value) -> Result<Lsids, AllocError>
 
 /// The sessions that a command ends, which were checked.
 pub fn sessions_under(alloc: Global, body: &Doc) -> Result<Lsids, AllocError>
-    requires { (v : AnyValue) → value_of (codes "endSessions") body.now ≡ Some v → sessions_in (codes "endSessions") (out-Value v) ≡ Ok None }
+    requires { (v : AnyValue) → value_of (codes "endSessions") body.now ≡ Some v
+        → sessions_in (codes "endSessions") (out-Value v) ≡ Ok None }
     ensures { IfOk result (λ ids. ids ≡ sessions_under body.now) }
 {
     match get(body, "endSessions") {

@@ -199,9 +199,11 @@ fn read_request(alloc: Global, command: Command, frame: &Frame) -> Result<Reques
 
 /// The request that the message is, by the first name of its body, at this wall.
 ///
-/// Otherwise the first of these refusals is answered: `Unknown` where there is no such command, or none in that form of
-/// messages; `Unacknowledged` where the sender wants no answer; `RetryWrite` where a write is to be retried by its number;
-/// `ClusterTimeAhead` where a time is more than a year ahead; and `Parse` with what is wrong in its fields.
+/// Otherwise the first of these refusals is answered: `Unknown` where there is no such command, or
+/// none in that form of messages; `Unacknowledged` where the sender wants no answer; `RetryWrite`
+/// where a write is to be retried by its number;
+/// `ClusterTimeAhead` where a time is more than a year ahead; and `Parse` with what is wrong in its
+/// fields.
 #[tactic(auto, unfolding(crate::specs::Commands::request_of))]
 pub fn read_command(alloc: Global, frame: &Frame, wall: u32) -> Result<Request, CmdErr>
     ensures { Gives (λ r. r) result (request_of wall frame.now) }

@@ -3,7 +3,8 @@ ghost use Rattle.std.specs.Prelude.{◌≡◌};
 use sqlite_items::Items;
 use txn_types::{Lsid, Op, Token, Ts};
 
-/// A transaction of several statements, by its session and its number there; and whether the request starts it.
+/// A transaction of several statements, by its session and its number there; and whether the
+/// request starts it.
 #[derive(Clone, Copy)]
 pub struct Txn {
     pub lsid: Lsid,
@@ -22,7 +23,8 @@ impl Txn {
 /// Sessions, in their order.
 pub type Lsids = Items<Lsid>;
 
-/// What a client asks. In each, `more` is the flag moreToCome, and `time` the cluster time that the client has seen.
+/// What a client asks. In each, `more` is the flag moreToCome, and `time` the cluster time that the
+/// client has seen.
 #[derive(Drop)]
 pub enum Request {
     /// Whether the server is there.
@@ -36,8 +38,8 @@ pub enum Request {
         more: bool,
         time: Option<Ts>,
     },
-    /// An operation on a collection: of a transaction, or one by itself where there is none. `at` is the time to read
-    /// at, and `after` one that is to be seen.
+    /// An operation on a collection: of a transaction, or one by itself where there is none. `at`
+    /// is the time to read at, and `after` one that is to be seen.
     Statement {
         op: Op,
         txn: Option<Txn>,

@@ -68,8 +68,8 @@ fn time_ahead(wall: u32, body: &Doc) -> Option<Ts>
     seen.or(after).or(at)
 }
 
-/// Refuses the first of a message's times that is more than a year ahead of the wall: that of gossip, then one to have
-/// seen, then one to read at.
+/// Refuses the first of a message's times that is more than a year ahead of the wall: that of
+/// gossip, then one to have seen, then one to read at.
 pub fn check_times(wall: u32, body: &Doc) -> Result<(), CmdErr>
     ensures { result ≡ not_ahead wall (time_ahead wall body.now) }
 {

@@ -125,8 +125,9 @@ fn token_of(doc: &Doc) -> Token
     }
 }
 
-/// The recovery token that the value is: `{tag}`, or `{recoveryShardId, tag, boot}` with an Int, 14 bytes of subtype 0 and
-/// a Long, in this order. Any other value is `Other`, as are a shard and a boot that fit no shard.
+/// The recovery token that the value is: `{tag}`, or `{recoveryShardId, tag, boot}` with an Int, 14
+/// bytes of subtype 0 and a Long, in this order. Any other value is `Other`, as are a shard and a
+/// boot that fit no shard.
 pub fn token_in(value: &Value) -> Token
     ensures { result ≡ token_in (out-Value value.now) }
 {

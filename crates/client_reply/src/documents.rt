@@ -129,14 +129,17 @@ fn failure(alloc: Global, kind: Kind, message: String) -> Result<Fields, AllocEr
 /// Appends a number.
 fn put_int(alloc: Global, fields: &mut Fields, name: &str, number: i32) -> Result<(), AllocError>
     requires { IsTrue (has_no_zero name.now) }
-    ensures { OnOk result (fields.new.items ≡ fields.old.items ++ (name.now, kinds.Int number) ∷ []) }
+    ensures { OnOk result
+        (fields.new.items ≡ fields.old.items ++ (name.now, kinds.Int number) ∷ []) }
 {
     put(alloc, fields, name, Value::Int(number))
 }
 
 /// That the server takes writes, by the newer name or the older one.
 fn put_primary(alloc: Global, fields: &mut Fields, old_name: bool) -> Result<(), AllocError>
-    ensures { OnOk result (fields.new.items ≡ fields.old.items ++ (if old_name then codes "ismaster" else codes "isWritablePrimary", kinds.Bool true) ∷ []) }
+    ensures { OnOk result (fields.new.items ≡ fields.old.items
+        ++ (if old_name then codes "ismaster" else codes "isWritablePrimary", kinds.Bool true)
+        ∷ []) }
 {
     if old_name {
         put(alloc, fields, "ismaster", Value::Bool(true))
@@ -147,7 +150,9 @@ fn put_primary(alloc: Global, fields: &mut Fields, old_name: bool) -> Result<(),
 
 /// That the server is a router.
 fn put_kind_of_server(alloc: Global, fields: &mut Fields, old_name: bool) -> Result<(), AllocError>
-    ensures { OnOk result (fields.new.items ≡ fields.old.items ++ (if old_name then codes "ismaster" else codes "isWritablePrimary", kinds.Bool true) ∷ (codes "msg", kinds.Text (codes "isdbgrid")) ∷ []) }
+    ensures { OnOk result (fields.new.items ≡ fields.old.items
+        ++ (if old_name then codes "ismaster" else codes "isWritablePrimary", kinds.Bool true)
+        ∷ (codes "msg", kinds.Text (codes "isdbgrid")) ∷ []) }
 {
     put_primary(alloc, fields, old_name)?;
     let kind = String::from_str(alloc, "isdbgrid")?;
@@ -157,7 +162,10 @@ fn put_kind_of_server(alloc: Global, fields: &mut Fields, old_name: bool) -> Res
 
 /// The manual's limits, which drivers read.
 fn put_limits(alloc: Global, fields: &mut Fields) -> Result<(), AllocError>
-    ensures { OnOk result (fields.new.items ≡ fields.old.items ++ (codes "maxBsonObjectSize", kinds.Int (pos most_stored)) ∷ (codes "maxMessageSizeBytes", kinds.Int (pos most_message)) ∷ (codes "maxWriteBatchSize", kinds.Int (pos most_batch)) ∷ []) }
+    ensures { OnOk result (fields.new.items
+        ≡ fields.old.items ++ (codes "maxBsonObjectSize", kinds.Int (pos most_stored))
+        ∷ (codes "maxMessageSizeBytes", kinds.Int (pos most_message))
+        ∷ (codes "maxWriteBatchSize", kinds.Int (pos most_batch)) ∷ []) }
 {
     put_int(alloc, fields, "maxBsonObjectSize", 16_777_216)?;
     put_int(alloc, fields, "maxMessageSizeBytes", 48_000_000)?;
@@ -167,7 +175,10 @@ fn put_limits(alloc: Global, fields: &mut Fields) -> Result<(), AllocError>
 
 /// The versions of the wire protocol that are served, and that writes are.
 fn put_versions(alloc: Global, fields: &mut Fields) -> Result<(), AllocError>
-    ensures { OnOk result (fields.new.items ≡ fields.old.items ++ (codes "minWireVersion", kinds.Int (pos 0)) ∷ (codes "maxWireVersion", kinds.Int (pos 21)) ∷ (codes "readOnly", kinds.Bool false) ∷ success) }
+    ensures { OnOk result
+        (fields.new.items ≡ fields.old.items ++ (codes "minWireVersion", kinds.Int (pos 0))
+        ∷ (codes "maxWireVersion", kinds.Int (pos 21)) ∷ (codes "readOnly", kinds.Bool false)
+        ∷ success) }
 {
     put_int(alloc, fields, "minWireVersion", 0)?;
     put_int(alloc, fields, "maxWireVersion", 21)?;

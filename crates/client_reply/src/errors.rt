@@ -110,7 +110,8 @@ fn kind_numbered(number: u8) -> Kind
     }
 }
 
-/// The kind of a cause of a transaction of this number; a vote's is that of the cause whose number it has.
+/// The kind of a cause of a transaction of this number; a vote's is that of the cause whose number
+/// it has.
 pub fn kind_of_cause(number: i64, cause: &Cause) -> Kind
     ensures { result ≡ kind_of_cause number cause.now }
 {

@@ -26,7 +26,8 @@ pub fn put_text(
     text: String,
 ) -> Result<(), AllocError>
     requires { IsTrue (has_no_zero name.now) }
-    ensures { OnOk result (fields.new.items ≡ fields.old.items ++ (name.now, kinds.Text (string_bytes text)) ∷ []) }
+    ensures { OnOk result
+        (fields.new.items ≡ fields.old.items ++ (name.now, kinds.Text (string_bytes text)) ∷ []) }
 {
     put(alloc, fields, name, Value::Text(Text::new(text)))
 }

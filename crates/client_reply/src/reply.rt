@@ -46,7 +46,8 @@ pub enum Refusal {
     Unacknowledged,
     /// The byte there, from the document's first on, is the type of no value that a document holds.
     BadKind { byte: u8, at: u64 },
-    /// The bytes are no message, for the reason of that number: 1 Length, 2 OpCode, 3 Flags, 4 Section, 5 NoBody,
+    /// The bytes are no message, for the reason of that number: 1 Length, 2 OpCode, 3 Flags, 4
+    /// Section, 5 NoBody,
     /// 6 TwoBodies, 7 a document, 8 TooLarge.
     BadMessage { number: u8 },
 }
@@ -62,8 +63,8 @@ pub enum Reply {
         wall: u32,
         conn: u32,
     },
-    /// An insert, an update or a delete was done: how many documents it met, and of an update how many it changed. Neither
-    /// is above 2^63 - 1.
+    /// An insert, an update or a delete was done: how many documents it met, and of an update how
+    /// many it changed. Neither is above 2^63 - 1.
     Wrote {
         n: u64,
         modified: Option<u64>,

@@ -105,7 +105,8 @@ fn by_text(alloc: Global, by: By) -> Result<String, AllocError>
 
 #[tactic(auto, using(crate::proofs::Messages::append_append))]
 fn conflict_text(alloc: Global, id: &Id, by: By) -> Result<String, AllocError>
-    ensures { IfOk result (λ s. string_bytes s ≡ codes "write conflict on " ++ document_text id.now ++ codes " with " ++ by_text by) }
+    ensures { IfOk result (λ s. string_bytes s
+        ≡ codes "write conflict on " ++ document_text id.now ++ codes " with " ++ by_text by) }
 {
     let document = document_text(alloc, id)?;
     let by = by_text(alloc, by)?;
@@ -114,7 +115,8 @@ fn conflict_text(alloc: Global, id: &Id, by: By) -> Result<String, AllocError>
 
 #[tactic(auto, using(crate::proofs::Messages::append_append))]
 fn expired_text(alloc: Global, begun: u32, now: u32) -> Result<String, AllocError>
-    ensures { IfOk result (λ s. string_bytes s ≡ codes "transaction expired: begun at " ++ decimal begun ++ codes ", now " ++ decimal now) }
+    ensures { IfOk result (λ s. string_bytes s ≡ codes "transaction expired: begun at "
+        ++ decimal begun ++ codes ", now " ++ decimal now) }
 {
     Ok(format!(in alloc; "transaction expired: begun at {begun}, now {now}")?)
 }
@@ -126,21 +128,24 @@ fn unavailable_text(
     carried: u32,
     have: u32,
 ) -> Result<String, AllocError>
-    ensures { IfOk result (λ s. string_bytes s ≡ codes "shard " ++ decimal shard ++ codes " was restarted: boot " ++ decimal carried ++ codes " is now " ++ decimal have) }
+    ensures { IfOk result (λ s. string_bytes s ≡ codes "shard " ++ decimal shard
+        ++ codes " was restarted: boot " ++ decimal carried ++ codes " is now " ++ decimal have) }
 {
     Ok(format!(in alloc; "shard {shard} was restarted: boot {carried} is now {have}")?)
 }
 
 #[tactic(auto, using(crate::proofs::Messages::append_append))]
 fn faulted_text(alloc: Global, shard: u16, faults: u64) -> Result<String, AllocError>
-    ensures { IfOk result (λ s. string_bytes s ≡ codes "shard " ++ decimal shard ++ codes " stopped after " ++ decimal faults ++ codes " disk faults") }
+    ensures { IfOk result (λ s. string_bytes s ≡ codes "shard " ++ decimal shard
+        ++ codes " stopped after " ++ decimal faults ++ codes " disk faults") }
 {
     Ok(format!(in alloc; "shard {shard} stopped after {faults} disk faults")?)
 }
 
 #[tactic(auto, using(crate::proofs::Messages::append_append))]
 fn older_text(alloc: Global, number: i64) -> Result<String, AllocError>
-    ensures { IfOk result (λ s. string_bytes s ≡ codes "transaction number " ++ signed_decimal number ++ codes " is older than ") }
+    ensures { IfOk result (λ s. string_bytes s
+        ≡ codes "transaction number " ++ signed_decimal number ++ codes " is older than ") }
 {
     Ok(format!(in alloc; "transaction number {number} is older than ")?)
 }
@@ -157,7 +162,8 @@ pub fn too_old_text(alloc: Global, number: i64, have: i64) -> Result<String, All
 
 #[tactic(auto, using(crate::proofs::Messages::append_append))]
 fn taken_text(alloc: Global, number: i64, tag: Tag) -> Result<String, AllocError>
-    ensures { IfOk result (λ s. string_bytes s ≡ codes "number " ++ signed_decimal number ++ codes " is taken by transaction " ++ tag_text tag) }
+    ensures { IfOk result (λ s. string_bytes s ≡ codes "number " ++ signed_decimal number
+        ++ codes " is taken by transaction " ++ tag_text tag) }
 {
     let tag = tag_text(alloc, tag)?;
     Ok(format!(in alloc; "number {number} is taken by transaction {tag}")?)
@@ -165,21 +171,24 @@ fn taken_text(alloc: Global, number: i64, tag: Tag) -> Result<String, AllocError
 
 #[tactic(auto, using(crate::proofs::Messages::append_append))]
 fn volume_text(alloc: Global, shard: u16, bytes: u64) -> Result<String, AllocError>
-    ensures { IfOk result (λ s. string_bytes s ≡ codes "transaction writes " ++ decimal bytes ++ codes " bytes on shard " ++ decimal shard) }
+    ensures { IfOk result (λ s. string_bytes s ≡ codes "transaction writes " ++ decimal bytes
+        ++ codes " bytes on shard " ++ decimal shard) }
 {
     Ok(format!(in alloc; "transaction writes {bytes} bytes on shard {shard}")?)
 }
 
 #[tactic(auto, using(crate::proofs::Messages::append_append))]
 fn clock_end_text(alloc: Global, shard: u16) -> Result<String, AllocError>
-    ensures { IfOk result (λ s. string_bytes s ≡ codes "clock of shard " ++ decimal shard ++ codes " is at its end") }
+    ensures { IfOk result
+        (λ s. string_bytes s ≡ codes "clock of shard " ++ decimal shard ++ codes " is at its end") }
 {
     Ok(format!(in alloc; "clock of shard {shard} is at its end")?)
 }
 
 #[tactic(auto, using(crate::proofs::Messages::append_append))]
 fn prepared_text(alloc: Global, tag: Tag) -> Result<String, AllocError>
-    ensures { IfOk result (λ s. string_bytes s ≡ codes "transaction " ++ tag_text tag ++ codes " is prepared") }
+    ensures { IfOk result
+        (λ s. string_bytes s ≡ codes "transaction " ++ tag_text tag ++ codes " is prepared") }
 {
     let tag = tag_text(alloc, tag)?;
     Ok(format!(in alloc; "transaction {tag} is prepared")?)
@@ -187,21 +196,24 @@ fn prepared_text(alloc: Global, tag: Tag) -> Result<String, AllocError>
 
 #[tactic(auto, using(crate::proofs::Messages::append_append))]
 fn many_sessions_text(alloc: Global, shard: u16) -> Result<String, AllocError>
-    ensures { IfOk result (λ s. string_bytes s ≡ codes "shard " ++ decimal shard ++ codes " has too many sessions") }
+    ensures { IfOk result
+        (λ s. string_bytes s ≡ codes "shard " ++ decimal shard ++ codes " has too many sessions") }
 {
     Ok(format!(in alloc; "shard {shard} has too many sessions")?)
 }
 
 #[tactic(auto, using(crate::proofs::Messages::append_append))]
 fn voted_text(alloc: Global, voter: u16, code: u8) -> Result<String, AllocError>
-    ensures { IfOk result (λ s. string_bytes s ≡ codes "shard " ++ decimal voter ++ codes " voted to abort: cause " ++ decimal code) }
+    ensures { IfOk result (λ s. string_bytes s
+        ≡ codes "shard " ++ decimal voter ++ codes " voted to abort: cause " ++ decimal code) }
 {
     Ok(format!(in alloc; "shard {voter} voted to abort: cause {code}")?)
 }
 
 #[tactic(auto, using(crate::proofs::Messages::append_append))]
 fn snapshot_text(alloc: Global, shard: u16, at: Ts, floor: Ts) -> Result<String, AllocError>
-    ensures { IfOk result (λ s. string_bytes s ≡ codes "snapshot " ++ time_text at ++ codes " is older than " ++ time_text floor ++ codes " on shard " ++ decimal shard) }
+    ensures { IfOk result (λ s. string_bytes s ≡ codes "snapshot " ++ time_text at
+        ++ codes " is older than " ++ time_text floor ++ codes " on shard " ++ decimal shard) }
 {
     let at = time_text(alloc, at)?;
     let floor = time_text(alloc, floor)?;
@@ -251,28 +263,32 @@ fn with_name(alloc: Global, words: &str, name: &Name) -> Result<String, AllocErr
 }
 
 fn bad_kind_text(alloc: Global, byte: u8, place: u64) -> Result<String, AllocError>
-    ensures { IfOk result (λ s. string_bytes s ≡ codes "type 0x" ++ hex_digits (byte ∷ []) ++ codes " at byte " ++ decimal place) }
+    ensures { IfOk result (λ s. string_bytes s
+        ≡ codes "type 0x" ++ hex_digits (byte ∷ []) ++ codes " at byte " ++ decimal place) }
 {
     format!(in alloc; "type 0x{byte:02x} at byte {place}")
 }
 
 #[tactic(auto, using(crate::proofs::Messages::append_append))]
 fn no_transaction_text(alloc: Global, number: i64) -> Result<String, AllocError>
-    ensures { IfOk result (λ s. string_bytes s ≡ codes "no transaction " ++ signed_decimal number ++ codes " here") }
+    ensures { IfOk result
+        (λ s. string_bytes s ≡ codes "no transaction " ++ signed_decimal number ++ codes " here") }
 {
     Ok(format!(in alloc; "no transaction {number} here")?)
 }
 
 #[tactic(auto, using(crate::proofs::Messages::append_append))]
 fn started_text(alloc: Global, number: i64) -> Result<String, AllocError>
-    ensures { IfOk result (λ s. string_bytes s ≡ codes "number " ++ signed_decimal number ++ codes " was begun") }
+    ensures { IfOk result
+        (λ s. string_bytes s ≡ codes "number " ++ signed_decimal number ++ codes " was begun") }
 {
     Ok(format!(in alloc; "number {number} was begun")?)
 }
 
 #[tactic(auto, using(crate::proofs::Messages::append_append))]
 fn ahead_text(alloc: Global, secs: u32, wall: u32) -> Result<String, AllocError>
-    ensures { IfOk result (λ s. string_bytes s ≡ codes "cluster time " ++ decimal secs ++ codes " is ahead of " ++ decimal wall) }
+    ensures { IfOk result (λ s. string_bytes s
+        ≡ codes "cluster time " ++ decimal secs ++ codes " is ahead of " ++ decimal wall) }
 {
     Ok(format!(in alloc; "cluster time {secs} is ahead of {wall}")?)
 }

@@ -65,7 +65,8 @@ fn token_document(alloc: Global, token: Token) -> Result<Doc, AllocError>
 
 /// Appends a recovery token.
 fn put_some_token(alloc: Global, fields: &mut Fields, token: Token) -> Result<(), AllocError>
-    ensures { OnOk result (fields.new.items ≡ fields.old.items ++ (codes "recoveryToken", views.Doc (token_document token)) ∷ []) }
+    ensures { OnOk result (fields.new.items
+        ≡ fields.old.items ++ (codes "recoveryToken", views.Doc (token_document token)) ∷ []) }
 {
     let document = Value::Doc(token_document(alloc, token)?);
     put(alloc, fields, "recoveryToken", document)?;

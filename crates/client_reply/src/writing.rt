@@ -10,8 +10,8 @@ use sqlite_items::Items;
 use std::alloc::{AllocError, Global};
 use txn_types::Ts;
 
-/// The message that tells the reply to the request of that number, in the older form of messages where that was asked in
-/// it; and the cluster's time, unless it is 0.
+/// The message that tells the reply to the request of that number, in the older form of messages
+/// where that was asked in it; and the cluster's time, unless it is 0.
 #[tactic(auto, unfolding(crate::specs::Replies::reply_frame), using(crate::proofs::Messages::append_append))]
 pub fn write_reply(
     alloc: Global,

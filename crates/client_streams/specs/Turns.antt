@@ -1,5 +1,6 @@
 -- What is served next on a connection.
-use Rattle.std.specs.Prelude.{ℕ, true, false, List, [], ◌∷◌, drop, Option, Some, None, if◌then◌else◌}
+use Rattle.std.specs.Prelude.{ℕ, true, false, List, [], ◌∷◌, drop, Option, Some, None}
+use Rattle.std.specs.Prelude.{if◌then◌else◌}
 use Rattle.client_streams.specs.declared.connection.Turn.{Turn}
 use Rattle.client_streams.specs.declared.connection.Turn.TheVariants.{Message, Fault, Nothing}
 use Rattle.client_streams.specs.Streams.{Connection}

@@ -29,8 +29,8 @@ fn fault_number(error: FrameErr) -> u8
     }
 }
 
-/// A connection: the bytes that are no whole message yet, the messages that wait, whether an earlier one is unanswered,
-/// and the number of the fault by which its bytes can't go on.
+/// A connection: the bytes that are no whole message yet, the messages that wait, whether an
+/// earlier one is unanswered, and the number of the fault by which its bytes can't go on.
 #[derive(Drop)]
 pub(crate) struct Connection {
     conn: u32,
@@ -78,10 +78,14 @@ impl Connection {
         self.fault = Some(number);
     }
 
-    /// Cuts the next message off the bytes, where they hold all of it; a fault drops them. It tells whether one was cut off.
+    /// Cuts the next message off the bytes, where they hold all of it; a fault drops them. It tells
+    /// whether one was cut off.
     fn cut_next(&mut self, alloc: Global) -> Result<bool, AllocError>
-        ensures cut { IfOk result (λ more. IsTrue more → (m : List ℕ × List ℕ) × (next_of most_message self.old.bytes ≡ Ok (Some m)) × (self.new ≡ record self.old { bytes = m.1; waiting = self.old.waiting ++ m.0 ∷ [] })) }
-        ensures last { IfOk result (λ more. (again : Connection → Connection) → more ≡ false → self.new ≡ cut_by again self.old (next_of most_message self.old.bytes)) }
+        ensures cut { IfOk result (λ more. IsTrue more → (m : List ℕ × List ℕ)
+            × (next_of most_message self.old.bytes ≡ Ok (Some m)) × (self.new
+            ≡ record self.old { bytes = m.1; waiting = self.old.waiting ++ m.0 ∷ [] })) }
+        ensures last { IfOk result (λ more. (again : Connection → Connection) → more ≡ false
+            → self.new ≡ cut_by again self.old (next_of most_message self.old.bytes)) }
     {
         match self.feeder.next() {
             Ok(Some(message)) => {
@@ -122,7 +126,8 @@ impl Connection {
     /// Takes the message that has waited longest; it is unanswered until its reply comes.
     pub(crate) fn give(&mut self) -> Option<Bytes>
         ensures message { self.old.waiting ≡ option_to_list result ++ self.new.waiting }
-        ensures rest { self.new ≡ record self.old { waiting = drop 1 self.old.waiting; busy = true } }
+        ensures rest { self.new
+            ≡ record self.old { waiting = drop 1 self.old.waiting; busy = true } }
     {
         self.busy = true;
         self.waiting.pop_front()

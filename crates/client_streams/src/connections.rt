@@ -64,7 +64,8 @@ impl Connections {
     /// Takes a connection out, and leaves a fresh one.
     fn take(&mut self, conn: u32) -> Result<Connection, AllocError>
         ensures taken { IfOk result (λ c. c ≡ connection_in self.old conn) }
-        ensures rest { OnOk result ((self.new ≡ self.old) ⊎ (self.new ≡ with_connection (fresh conn) self.old)) }
+        ensures rest { OnOk result
+            ((self.new ≡ self.old) ⊎ (self.new ≡ with_connection (fresh conn) self.old)) }
     {
         let fresh = Connection::new(self.alloc, conn);
         match self.place_of(conn) {
@@ -75,7 +76,8 @@ impl Connections {
 
     /// Bytes come on a connection.
     pub fn feed(&mut self, conn: u32, bytes: &[u8]) -> Result<(), AllocError>
-        ensures { OnOk result (self.new ≡ with_connection (fed (connection_in self.old conn) bytes.now) self.old) }
+        ensures { OnOk result
+            (self.new ≡ with_connection (fed (connection_in self.old conn) bytes.now) self.old) }
     {
         let mut connection = self.take(conn)?;
         connection.feed(self.alloc, bytes)?;
@@ -93,10 +95,13 @@ impl Connections {
         }
     }
 
-    /// Takes the message of a connection that has waited longest; it is unanswered until its reply comes.
+    /// Takes the message of a connection that has waited longest; it is unanswered until its reply
+    /// comes.
     pub fn give(&mut self, conn: u32) -> Result<Option<Bytes>, AllocError>
-        ensures message { IfOk result (λ m. (connection_in self.old conn).waiting ≡ option_to_list m ++ drop 1 (connection_in self.old conn).waiting) }
-        ensures rest { OnOk result (self.new ≡ with_connection (taken_from (connection_in self.old conn)) self.old) }
+        ensures message { IfOk result (λ m. (connection_in self.old conn).waiting
+            ≡ option_to_list m ++ drop 1 (connection_in self.old conn).waiting) }
+        ensures rest { OnOk result
+            (self.new ≡ with_connection (taken_from (connection_in self.old conn)) self.old) }
     {
         let mut connection = self.take(conn)?;
         let message = connection.give();
@@ -106,7 +111,8 @@ impl Connections {
 
     /// The message that was unanswered is answered, or wants no reply.
     pub fn answered(&mut self, conn: u32) -> Result<(), AllocError>
-        ensures { OnOk result (self.new ≡ with_connection (answered_in (connection_in self.old conn)) self.old) }
+        ensures { OnOk result
+            (self.new ≡ with_connection (answered_in (connection_in self.old conn)) self.old) }
     {
         let mut connection = self.take(conn)?;
         connection.answer();
@@ -114,10 +120,12 @@ impl Connections {
         Ok(())
     }
 
-    /// Drops the connections of a router: those whose number leaves the router's over the number of routers.
+    /// Drops the connections of a router: those whose number leaves the router's over the number of
+    /// routers.
     pub fn drop_of(&mut self, router: u16, routers: u16)
         requires { 0 < routers }
-        ensures { self.new ≡ filter (λ (c : Connection). not (nat_eq (c.conn % routers) router)) self.old }
+        ensures { self.new
+            ≡ filter (λ (c : Connection). not (nat_eq (c.conn % routers) router)) self.old }
     {
         self.all.retain(|connection| connection.number() % u32::from(routers) != u32::from(router));
     }

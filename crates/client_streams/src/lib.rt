@@ -1,4 +1,5 @@
-//! The connections of clients: the bytes that come on each are cut into messages, and one message at a time is served.
+//! The connections of clients: the bytes that come on each are cut into messages, and one message
+//! at a time is served.
 #![tactic(auto)]
 
 mod connection;

@@ -1,11 +1,15 @@
--- What a configuration says, as TOML 1.0 has its tables and values (toml.io). Which keys there are is this project's choice.
-use Rattle.std.specs.Prelude.{◌≡◌, ℕ, suc, ◌≤◌, ◌&&◌, ◌==◌, ℤ, pos, unsigned_abs, int_le, nat_le, nat_lt, Bool, true, false, List, [], ◌∷◌, codes, length, Option, Some, None, option_and_then, Result, Ok, Err, if◌then◌else◌}
+-- What a configuration says, as TOML 1.0 has its tables and values (toml.io). Which keys there are
+-- is this project's choice.
+use Rattle.std.specs.Prelude.{◌≡◌, ℕ, suc, ◌≤◌, ◌&&◌, ◌==◌, ℤ, pos, unsigned_abs, int_le, nat_le}
+use Rattle.std.specs.Prelude.{nat_lt, Bool, true, false, List, [], ◌∷◌, codes, length, Option, Some}
+use Rattle.std.specs.Prelude.{None, option_and_then, Result, Ok, Err, if◌then◌else◌}
 use Rattle.std.specs.List.{list_any, position_or_len, before_first, after_first}
 use Rattle.std.specs.Str.{bytes_eq}
 use Rattle.outcomes.specs.Bind.{◌>>=◌}
 use Rattle.outcomes.specs.Outcome as outcome
 use Rattle.toml.specs.Parse.{parse_document}
-use Rattle.toml.specs.Data.{Data, string, integer, array, table, Items, no_items, item, Members, no_members, member, get_member}
+use Rattle.toml.specs.Data.{Data, string, integer, array, table, Items, no_items, item, Members}
+use Rattle.toml.specs.Data.{no_members, member, get_member}
 use Rattle.txn_types.specs.Names.{is_database, is_collection, namespace_of}
 use Rattle.txn_types.specs.declared.id.Id.{Id}
 use Rattle.txn_types.specs.declared.id.Id.TheVariants.{Num, Text}
@@ -13,7 +17,8 @@ use Rattle.chunk_map.specs.declared.map.ChunkRow.{ChunkRow}
 use Rattle.chunk_map.specs.declared.map.MapErr.{MapErr}
 use Rattle.chunk_map.specs.Map.{Map, map_of}
 use Rattle.cluster_conf.specs.declared.conf.ConfErr.{ConfErr}
-use Rattle.cluster_conf.specs.declared.conf.ConfErr.TheVariants.{NotToml, Key, Map as BadMap, Memory}
+use Rattle.cluster_conf.specs.declared.conf.ConfErr.TheVariants.{NotToml, Key, Map as BadMap}
+use Rattle.cluster_conf.specs.declared.conf.ConfErr.TheVariants.{Memory}
 
 -- the limits, and where a router listens that doesn't say it
 abbrev pub most_shards : ℕ
@@ -67,7 +72,8 @@ or_key name None = Err (Key name)
 -- Numbers: a count from 1 on, which is 1 where it isn't given.
 
 abbrev pub number_within : ℤ → ℤ → Data → Option ℕ
-number_within least most (integer z) = if int_le least z && int_le z most then Some (unsigned_abs z) else None
+number_within least most (integer z) = if int_le least z && int_le z most
+    then Some (unsigned_abs z) else None
 number_within least most other = None
 
 abbrev pub count_in : ℕ → Option Data → Option ℕ
@@ -95,7 +101,8 @@ texts_of (item value rest) = with_text (text_in value) (texts_of rest)
 
 abbrev pub of_length : ℕ → Option (List (List ℕ)) → Option (List (List ℕ))
 of_length count None = None
-of_length count (Some texts) = if nat_le count (length texts) && nat_le (length texts) count then Some texts else None
+of_length count (Some texts) = if nat_le count (length texts) && nat_le (length texts) count
+    then Some texts else None
 
 abbrev pub addresses_by : ℕ → Data → Option (List (List ℕ))
 addresses_by count (array items) = of_length count (texts_of items)
@@ -112,10 +119,12 @@ is_dot b = b == 46
 
 -- a namespace is parted at its first full stop
 abbrev pub ns_by : List ℕ → List ℕ → Option (List ℕ)
-ns_by database collection = if is_database database && is_collection collection then Some (namespace_of database collection) else None
+ns_by database collection = if is_database database && is_collection collection
+    then Some (namespace_of database collection) else None
 
 abbrev pub ns_of_text : List ℕ → Option (List ℕ)
-ns_of_text text = if nat_lt (position_or_len is_dot text) (length text) then ns_by (before_first is_dot text) (after_first is_dot text) else None
+ns_of_text text = if nat_lt (position_or_len is_dot text) (length text)
+    then ns_by (before_first is_dot text) (after_first is_dot text) else None
 
 abbrev pub ns_in : Option Data → Option (List ℕ)
 ns_in None = None
@@ -138,7 +147,8 @@ from_in (Some value) = id_by value
 -- the first key that isn't among these
 abbrev pub unknown_in : List (List ℕ) → Members → Option (List ℕ)
 unknown_in known no_members = None
-unknown_in known (member key value rest) = if list_any (bytes_eq key) known then unknown_in known rest else Some key
+unknown_in known (member key value rest) = if list_any (bytes_eq key) known
+    then unknown_in known rest else Some key
 
 abbrev pub only : Option (List ℕ) → Result (Unit {0}) ConfErr
 only None = Ok tt
@@ -169,7 +179,8 @@ items_length no_items = 0
 items_length (item value rest) = suc (items_length rest)
 
 abbrev pub chunks_by : Data → Result (List ChunkRow) ConfErr
-chunks_by (array items) = if nat_le (items_length items) most_chunks then rows_of items else Err (Key (codes "chunk"))
+chunks_by (array items) = if nat_le (items_length items) most_chunks then rows_of items
+    else Err (Key (codes "chunk"))
 chunks_by other = Err (Key (codes "chunk"))
 
 abbrev pub chunks_in : Option Data → Result (List ChunkRow) ConfErr
@@ -179,13 +190,15 @@ chunks_in (Some value) = chunks_by value
 -- The whole.
 
 abbrev pub known_keys : List (List ℕ)
-known_keys = codes "shards" ∷ codes "routers" ∷ codes "listen" ∷ codes "shard_at" ∷ codes "router_at" ∷ codes "chunk" ∷ []
+known_keys = codes "shards" ∷ codes "routers" ∷ codes "listen" ∷ codes "shard_at"
+    ∷ codes "router_at" ∷ codes "chunk" ∷ []
 
 abbrev pub as_map : Result Map MapErr → Result Map ConfErr
 as_map (Ok map) = Ok map
 as_map (Err fault) = Err (BadMap fault)
 
--- the first field at fault, in this order, then the first unknown key, then what is wrong with the rows
+-- the first field at fault, in this order, then the first unknown key, then what is wrong with the
+-- rows
 abbrev pub settings_of : Members → Result Settings ConfErr
 settings_of ms = do
   shards ← or_key (codes "shards") (count_in most_shards (get_member (codes "shards") ms))
@@ -196,7 +209,14 @@ settings_of ms = do
   rows ← chunks_in (get_member (codes "chunk") ms)
   _ ← only (unknown_in known_keys ms)
   map ← as_map (map_of shards rows)
-  Ok (record { shards = shards; routers = routers; map = map; listen = listen; shard_at = shard_at; router_at = router_at })
+  Ok (record {
+    shards = shards;
+    routers = routers;
+    map = map;
+    listen = listen;
+    shard_at = shard_at;
+    router_at = router_at;
+  })
 
 abbrev pub conf_by : Option Members → Result Settings ConfErr
 conf_by None = Err NotToml
@@ -208,4 +228,11 @@ conf_of text = conf_by (parse_document text)
 
 -- one shard, one router and no rows
 abbrev pub plain : Settings
-plain = record { shards = 1; routers = 1; map = record { shards = 1; rows = [] }; listen = default_listen; shard_at = []; router_at = [] }
+plain = record {
+  shards = 1;
+  routers = 1;
+  map = record { shards = 1; rows = [] };
+  listen = default_listen;
+  shard_at = [];
+  router_at = [];
+}

@@ -42,7 +42,8 @@ fn ns_in(alloc: Global, value: Option<&Value>) -> Result<Option<Ns>, AllocError>
 
 /// The namespace of a row.
 fn ns_at(alloc: Global, row: &Table) -> Result<Ns, ConfErr>
-    ensures { Gives (λ n. n) result (or_key (codes "ns") (ns_in (get_member (codes "ns") (table_view row.now)))) }
+    ensures { Gives (λ n. n) result
+        (or_key (codes "ns") (ns_in (get_member (codes "ns") (table_view row.now)))) }
 {
     match ns_in(alloc, member(row, "ns"))? {
         Some(ns) => Ok(ns),
@@ -61,7 +62,8 @@ fn shard_in(value: Option<&Value>) -> Option<u16>
 
 /// The shard of a row.
 fn shard_at(alloc: Global, row: &Table) -> Result<u16, ConfErr>
-    ensures { Gives (λ n. n) result (or_key (codes "shard") (shard_in (get_member (codes "shard") (table_view row.now)))) }
+    ensures { Gives (λ n. n) result
+        (or_key (codes "shard") (shard_in (get_member (codes "shard") (table_view row.now)))) }
 {
     match shard_in(member(row, "shard")) {
         Some(shard) => Ok(shard),
@@ -93,7 +95,8 @@ fn from_in(alloc: Global, value: Option<&Value>) -> Result<Option<Option<Id>>, A
 
 /// Where the ids of a row begin.
 fn from_at(alloc: Global, row: &Table) -> Result<Option<Id>, ConfErr>
-    ensures { Gives (λ i. i) result (or_key (codes "from") (from_in (get_member (codes "from") (table_view row.now)))) }
+    ensures { Gives (λ i. i) result
+        (or_key (codes "from") (from_in (get_member (codes "from") (table_view row.now)))) }
 {
     match from_in(alloc, member(row, "from"))? {
         Some(from) => Ok(from),
@@ -176,7 +179,8 @@ fn chunks_by(alloc: Global, value: &Value) -> Result<Vec<ChunkRow>, ConfErr>
 
 /// The rows of chunks.
 pub fn chunks_at(alloc: Global, table: &Table) -> Result<Vec<ChunkRow>, ConfErr>
-    ensures { Gives (λ v. v.items) result (chunks_in (get_member (codes "chunk") (table_view table.now))) }
+    ensures { Gives (λ v. v.items) result
+        (chunks_in (get_member (codes "chunk") (table_view table.now))) }
 {
     match member(table, "chunk") {
         Some(value) => chunks_by(alloc, value),

@@ -57,8 +57,8 @@ impl<T: Drop> From<AllocFailed<T>> for ConfErr {
     }
 }
 
-/// A configuration: 1 to 16 shards, 1 to 8 routers, the map of chunks over the shards, where the cluster listens, and the
-/// addresses of its shards and routers: one for each, or none.
+/// A configuration: 1 to 16 shards, 1 to 8 routers, the map of chunks over the shards, where the
+/// cluster listens, and the addresses of its shards and routers: one for each, or none.
 #[derive(Drop)]
 pub struct Conf {
     shards: u16,
@@ -116,9 +116,10 @@ impl Conf {
     ghost use Rattle.cluster_conf.specs.Conf.{Gives, IsSettings, conf_of, plain};
     ghost use Rattle.cluster_conf.specs.declared.conf.ConfErr.TheVariants.{Memory};
 
-    /// The configuration that the text is, in TOML. Otherwise the first of these refusals is answered: `NotToml`; `Key` with
-    /// the first key at fault, in the order shards, routers, listen, shard_at, router_at, chunk (and in a row ns, shard, from,
-    /// unknown keys), and then the first unknown key by its bytes; `Map` with what is wrong with the rows.
+    /// The configuration that the text is, in TOML. Otherwise the first of these refusals is
+    /// answered: `NotToml`; `Key` with the first key at fault, in the order shards, routers,
+    /// listen, shard_at, router_at, chunk (and in a row ns, shard, from, unknown keys), and then
+    /// the first unknown key by its bytes; `Map` with what is wrong with the rows.
     pub fn read(alloc: Global, text: &str) -> Result<Conf, ConfErr>
         ensures { Gives (λ c. c) result (conf_of text.now) }
     {

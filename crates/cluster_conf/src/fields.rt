@@ -61,7 +61,8 @@ fn count_in(most: u16, value: Option<&Value>) -> Option<u16>
 
 /// The count under that name.
 pub fn count_at(alloc: Global, table: &Table, name: &str, most: u16) -> Result<u16, ConfErr>
-    ensures { Gives (λ n. n) result (or_key name.now (count_in most (get_member name.now (table_view table.now)))) }
+    ensures { Gives (λ n. n) result
+        (or_key name.now (count_in most (get_member name.now (table_view table.now)))) }
 {
     match count_in(most, member(table, name)) {
         Some(count) => Ok(count),
@@ -90,7 +91,8 @@ fn listen_in(alloc: Global, value: Option<&Value>) -> Result<Option<Text>, Alloc
 
 /// Where the cluster listens.
 pub fn listen_at(alloc: Global, table: &Table) -> Result<Text, ConfErr>
-    ensures { Gives (λ t. t) result (or_key (codes "listen") (listen_in (get_member (codes "listen") (table_view table.now)))) }
+    ensures { Gives (λ t. t) result
+        (or_key (codes "listen") (listen_in (get_member (codes "listen") (table_view table.now)))) }
 {
     match listen_in(alloc, member(table, "listen"))? {
         Some(text) => Ok(text),

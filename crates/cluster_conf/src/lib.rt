@@ -1,5 +1,5 @@
-//! The configuration of a cluster: how many shards and routers it has, where they listen, and which shard keeps which
-//! documents.
+//! The configuration of a cluster: how many shards and routers it has, where they listen, and which
+//! shard keeps which documents.
 #![tactic(auto)]
 
 mod chunks;

@@ -80,7 +80,8 @@ fn addresses_in(
 
 /// The addresses under that name: one for each of `count`, or none where they aren't given.
 pub fn addresses_at(alloc: Global, table: &Table, name: &str, count: u16) -> Result<Texts, ConfErr>
-    ensures { Gives (λ t. t) result (or_key name.now (addresses_in count (get_member name.now (table_view table.now)))) }
+    ensures { Gives (λ t. t) result
+        (or_key name.now (addresses_in count (get_member name.now (table_view table.now)))) }
 {
     match addresses_in(alloc, count, member(table, name))? {
         Some(texts) => Ok(texts),

@@ -1,7 +1,9 @@
--- Which statements a run answered, from the messages and requests of the run alone. A statement is answered at the step at
--- which its router has taken, from every shard that it sent the statement to, an Answer with a reply or with the statement's
--- own refusal. The first Answer of each shard counts, and none behind the end of the statement's connection.
-use Rattle.std.specs.Prelude.{ℕ, ◌&&◌, Bool, not, List, [], ◌∷◌, ◌++◌, map, filter, filter_map, nat_eq, length, Option, Some, None, is_some, Ok, Err, if◌then◌else◌}
+-- Which statements a run answered, from the messages and requests of the run alone. A statement is
+-- answered at the step at which its router has taken, from every shard that it sent the statement
+-- to, an Answer with a reply or with the statement's own refusal. The first Answer of each shard
+-- counts, and none behind the end of the statement's connection.
+use Rattle.std.specs.Prelude.{ℕ, ◌&&◌, Bool, not, List, [], ◌∷◌, ◌++◌, map, filter, filter_map}
+use Rattle.std.specs.Prelude.{nat_eq, length, Option, Some, None, is_some, Ok, Err, if◌then◌else◌}
 use Rattle.std.specs.List.{list_any, list_all}
 use Rattle.std.specs.Ordering.{nat_cmp}
 use Rattle.txn_types.specs.Order.{same_tag}
@@ -28,8 +30,9 @@ use Rattle.router_state.specs.State.{RouterState}
 use Rattle.txn_types.specs.Letters.{given_out}
 use Rattle.cluster_core.specs.Routers.{Asked, request_at}
 
--- a statement that was sent and isn't answered: its router and connection, its transaction and place there, the client's
--- whole operation, the shards that it was sent to, and the answers that were taken, by rising shard
+-- a statement that was sent and isn't answered: its router and connection, its transaction and
+-- place there, the client's whole operation, the shards that it was sent to, and the answers that
+-- were taken, by rising shard
 pub record Unanswered : Type 0 where
   pub router : ℕ
   pub conn : ℕ
@@ -53,7 +56,15 @@ statements_in a = filter_map statement_in (given_out a)
 abbrev pub opened_by : ℕ → ℕ → Op → List (ℕ × Statement) → List Unanswered
 opened_by router conn op [] = []
 opened_by router conn op (part ∷ parts) =
-    record { router = router; conn = conn; tag = part.1.tag; k = part.1.k; op = op; shards = map (λ p. p.0) (part ∷ parts); answers = [] } ∷ []
+    record {
+      router = router;
+      conn = conn;
+      tag = part.1.tag;
+      k = part.1.k;
+      op = op;
+      shards = map (λ p. p.0) (part ∷ parts);
+      answers = [];
+    } ∷ []
 
 abbrev pub opened : ℕ → Option Asked → NodeAnswer → List Unanswered
 opened router None a = []
@@ -66,21 +77,25 @@ opened router (Some asked) a = elim (asked.1) [
 
 abbrev pub is_for : ℕ → Answer → Unanswered → Bool
 is_for router a u =
-    nat_eq u.router router && same_tag u.tag a.tag && nat_eq u.k a.k && list_any (nat_eq a.shard) u.shards && not (list_any (λ other. nat_eq other.0 a.shard) u.answers)
+    nat_eq u.router router && same_tag u.tag a.tag && nat_eq u.k a.k && list_any (nat_eq a.shard)
+    u.shards && not (list_any (λ other. nat_eq other.0 a.shard) u.answers)
 
 abbrev pub with_answer : ℕ → Answer → Unanswered → Unanswered
-with_answer router a u = if is_for router a u then record u { answers = put nat_cmp a.shard a u.answers } else u
+with_answer router a u = if is_for router a u
+    then record u { answers = put nat_cmp a.shard a u.answers } else u
 
 abbrev pub is_complete : Unanswered → Bool
 is_complete u = nat_eq (length u.answers) (length u.shards)
 
--- what an Answer says of the statement: its reply, or its own refusal; none where another cause stands
+-- what an Answer says of the statement: its reply, or its own refusal; none where another cause
+-- stands
 abbrev pub refused_as : Cause → Option Meaning
 refused_as (cause.Statement err) = Some (Err err)
 refused_as other = None
 
 abbrev pub meaning_in : ℕ × Answer → Option Meaning
-meaning_in answer = elim (answer.1.outcome) [ Ok done ↦ Some (Ok (done.0, [])) | Err why ↦ refused_as why ]
+meaning_in answer =
+    elim (answer.1.outcome) [ Ok done ↦ Some (Ok (done.0, [])) | Err why ↦ refused_as why ]
 
 abbrev pub all_say : Unanswered → Bool
 all_say u = list_all (λ answer. is_some (meaning_in answer)) u.answers
@@ -89,9 +104,16 @@ abbrev pub read_at_of : List (ℕ × Answer) → ℕ
 read_at_of [] = 0
 read_at_of (answer ∷ answers) = answer.1.read_at
 
--- the answered statement: it was read at what its answers tell, and what it is told is one reply or refusal
+-- the answered statement: it was read at what its answers tell, and what it is told is one reply or
+-- refusal
 abbrev pub answered_of : Unanswered → Answered
-answered_of u = record { tag = u.tag; read_at = read_at_of u.answers; k = u.k; op = u.op; outcome = outcome document_rules u.op (filter_map meaning_in u.answers) }
+answered_of u = record {
+  tag = u.tag;
+  read_at = read_at_of u.answers;
+  k = u.k;
+  op = u.op;
+  outcome = outcome document_rules u.op (filter_map meaning_in u.answers);
+}
 
 abbrev pub answered_among : List Unanswered → List Answered
 answered_among us = map answered_of (filter (λ u. is_complete u && all_say u) us)
@@ -107,7 +129,8 @@ taken_what n (what.Gone conn) us = filter (λ u. not (nat_eq u.router n && nat_e
 taken_what n other us = us
 
 -- the statements behind a router's step, with those that it answers
-abbrev pub unanswered_behind : ℕ → RouterState → NodeEvent → NodeAnswer → List Unanswered → List Unanswered
+abbrev pub unanswered_behind : ℕ → RouterState → NodeEvent → NodeAnswer → List Unanswered
+    → List Unanswered
 unanswered_behind n r e a us = taken_what n e.what us ++ opened n (request_at r e a) a
 
 -- without those that are answered

@@ -1,6 +1,7 @@
--- That a client which hands on the time of a reply reads its own writes: what a transaction reads at, and the time of a reply
--- that tells of a commit.
-use Rattle.std.specs.Prelude.{◌≡◌, ◌≤◌, ℕ, ◌+◌, List, All, Contains, IsTrue, Option, Some, None, unwrap_or, slice_get, take}
+-- That a client which hands on the time of a reply reads its own writes: what a transaction reads
+-- at, and the time of a reply that tells of a commit.
+use Rattle.std.specs.Prelude.{◌≡◌, ◌≤◌, ℕ, ◌+◌, List, All, Contains, IsTrue, Option, Some, None}
+use Rattle.std.specs.Prelude.{unwrap_or, slice_get, take}
 use Rattle.txn_types.specs.Order.{same_tag}
 use Rattle.txn_types.specs.declared.event.NodeAnswer.{NodeAnswer}
 use Rattle.txn_types.specs.declared.event.NodeEvent.{NodeEvent}
@@ -19,14 +20,18 @@ use Rattle.cluster_core.specs.Routers.{Asked, request_at}
 use Rattle.cluster_core.specs.Ledger.{fresh_ledger, ledger_behind, answered_in, all_replied}
 use Rattle.cluster_core.specs.Telling.{Telling, Done, telling_of}
 
--- what is read at is the time that is named, or else at or above each time that the request names and the router has met
+-- what is read at is the time that is named, or else at or above each time that the request names
+-- and the router has met
 abbrev pub ReadsFrom : ℕ → ℕ → Request → Type 0
 ReadsFrom time read_at (request.Statement op txn (Some at) after more seen) = read_at ≡ at
-ReadsFrom time read_at (request.Statement op txn None after more seen) = (time ≤ read_at) × (unwrap_or after 0 ≤ read_at) × (unwrap_or seen 0 ≤ read_at)
+ReadsFrom time read_at (request.Statement op txn None after more seen) = (time ≤ read_at)
+    × (unwrap_or after 0 ≤ read_at) × (unwrap_or seen 0 ≤ read_at)
 ReadsFrom time read_at other = Unit {0}
 
--- At the place of a run a router with this time took a request, and sent this as the first statement of a transaction.
-pub record Begins (routers : List RouterState) (run : List Ran) (place : ℕ) (r : RouterState) (asked : Asked) (m : Statement) : Type 0 where
+-- At the place of a run a router with this time took a request, and sent this as the first
+-- statement of a transaction.
+pub record Begins (routers : List RouterState) (run : List Ran) (place : ℕ) (r : RouterState)
+    (asked : Asked) (m : Statement) : Type 0 where
   pub n : ℕ
   pub shard : ℕ
   pub event : NodeEvent
@@ -41,7 +46,8 @@ pub record Begins (routers : List RouterState) (run : List Ran) (place : ℕ) (r
 -- each answered statement of a transaction was read at such a time
 abbrev pub ReadsCausal : List RouterState → List Ran → List Answered → Type 0
 ReadsCausal routers run answered =
-    (place : ℕ) (r : RouterState) (asked : Asked) (m : Statement) → Begins routers run place r asked m
+    (place : ℕ) (r : RouterState) (asked : Asked) (m : Statement)
+    → Begins routers run place r asked m
     → All (λ a. IsTrue (same_tag a.tag m.tag) → ReadsFrom r.time a.read_at asked.1) answered
 
 abbrev pub time_of : Option RouterState → ℕ
@@ -50,13 +56,16 @@ time_of (Some r) = r.time
 
 -- the router's time behind the step of a reply, which the reply carries
 abbrev pub time_behind : List RouterState → List Ran → ℕ → ℕ → ℕ
-time_behind routers run n place = time_of (slice_get (ledger_behind (fresh_ledger routers) (take (place + 1) run)).routers n)
+time_behind routers run n place =
+    time_of (slice_get (ledger_behind (fresh_ledger routers) (take (place + 1) run)).routers n)
 
 -- a reply that tells of a commit carries a time at or above it
 abbrev pub TellsTime : List RouterState → List Ran → List Entry → Replied → Type 0
 TellsTime routers run entries r =
-    (t : Telling) → telling_of r ≡ Some t → t.meant ≡ Done → All (λ e. IsTrue (same_tag e.tag t.tag) → e.at ≤ time_behind routers run r.hand.router r.place) entries
+    (t : Telling) → telling_of r ≡ Some t → t.meant ≡ Done → All (λ e. IsTrue (same_tag e.tag t.tag)
+    → e.at ≤ time_behind routers run r.hand.router r.place) entries
 
-pub record Causal (routers : List RouterState) (run : List Ran) (entries : List Entry) : Type 0 where
+pub record Causal (routers : List RouterState) (run : List Ran)
+    (entries : List Entry) : Type 0 where
   pub reads : ReadsCausal routers run (answered_in routers run)
   pub tells : All (TellsTime routers run entries) (all_replied routers run)

@@ -1,6 +1,10 @@
--- What stands where a cause is made. A cause that a reply tells was made by some step of the shard that the reply names, at or
--- before the reply: one that told it, or that ended the transaction with it.
-use Rattle.std.specs.Prelude.{◌≡◌, ◌≢◌, ◌<◌, ◌≤◌, ◌⊎◌, ℕ, ℤ, ◌+◌, ◌-◌, ◌^◌, ◌<ℤ◌, Bool, true, false, List, [], ◌∷◌, ◌++◌, filter, filter_map, take, nat_eq, nat_lt, All, Contains, Option, Some, None, unwrap_or, option_map, slice_get, Err, if◌then◌else◌}
+-- What stands where a cause is made. A cause that a reply tells was made by some step of the shard
+-- that the reply names, at or before the reply: one that told it, or that ended the transaction
+-- with it.
+use Rattle.std.specs.Prelude.{◌≡◌, ◌≢◌, ◌<◌, ◌≤◌, ◌⊎◌, ℕ, ℤ, ◌+◌, ◌-◌, ◌^◌, ◌<ℤ◌, Bool, true, false}
+use Rattle.std.specs.Prelude.{List, [], ◌∷◌, ◌++◌, filter, filter_map, take, nat_eq, nat_lt, All}
+use Rattle.std.specs.Prelude.{Contains, Option, Some, None, unwrap_or, option_map, slice_get, Err}
+use Rattle.std.specs.Prelude.{if◌then◌else◌}
 use Rattle.std.specs.List.{list_any}
 use Rattle.txn_types.specs.Limits.{most_written}
 use Rattle.txn_types.specs.Causes.{cause_number}
@@ -71,8 +75,8 @@ pub record Past : Type 0 where
   pub trace : List Nodes
   pub now : Nodes
 
--- Where a cause was made: the shard before and behind the step, its event and its answer; and the session and number of the
--- transaction.
+-- Where a cause was made: the shard before and behind the step, its event and its answer; and the
+-- session and number of the transaction.
 pub record Making : Type 0 where
   pub place : ℕ
   pub shard : ℕ
@@ -135,14 +139,17 @@ NamesAt m (what.Deliver e) = Names m.tag m.lsid m.number e.msg
 NamesAt m other = ⊥
 
 abbrev pub HasSession : Making → Type 0
-HasSession m = (s : Session) × (session m.before.core.part m.lsid ≡ Some s) × (s.tag ≡ m.tag) × (s.number ≡ m.number)
+HasSession m = (s : Session) × (session m.before.core.part m.lsid ≡ Some s) × (s.tag ≡ m.tag)
+    × (s.number ≡ m.number)
 
 -- or the shard coordinates its commit
 abbrev pub HasPlan : Making → Type 0
-HasPlan m = (c : Coordinated) × (coordinated_of m.before.core.coord m.tag ≡ Some c) × (c.plan.lsid ≡ m.lsid) × (c.plan.number ≡ m.number)
+HasPlan m = (c : Coordinated) × (coordinated_of m.before.core.coord m.tag ≡ Some c)
+    × (c.plan.lsid ≡ m.lsid) × (c.plan.number ≡ m.number)
 
 -- a step of the run, at or before this place, told the cause of the transaction, or ended it so
-pub record IsMade (past : Past) (within : ℕ) (shard : ℕ) (tag : Tag) (why : Cause) (m : Making) : Type 0 where
+pub record IsMade (past : Past) (within : ℕ) (shard : ℕ) (tag : Tag) (why : Cause)
+    (m : Making) : Type 0 where
   pub faults : ℕ
   pub nodes : Nodes
   pub next : Nodes
@@ -160,7 +167,8 @@ pub record IsMade (past : Past) (within : ℕ) (shard : ℕ) (tag : Tag) (why : 
 
 -- that transaction has written the document there
 abbrev pub has_version : Id → Tag → Versions → Bool
-has_version id tag store = list_any (λ key. if same_id key.0.1 id then list_any (is_of tag) key.1 else false) store
+has_version id tag store =
+    list_any (λ key. if same_id key.0.1 id then list_any (is_of tag) key.1 else false) store
 
 -- a commit at that time wrote the document
 abbrev pub writes_id : Id → List Write → Bool
@@ -177,19 +185,23 @@ live_at m = if_of m.tag (open_of (part_at m) m.lsid)
 -- the statement that is delivered, and what it reads at
 abbrev pub read_time : Making → Statement → ℕ
 read_time m s =
-    unwrap_or (option_map (λ (o : Open). o.read_at) (live_at m)) (if nat_eq s.read_at 0 then (core_at m).clock.last else s.read_at)
+    unwrap_or (option_map (λ (o : Open). o.read_at) (live_at m))
+    (if nat_eq s.read_at 0 then (core_at m).clock.last else s.read_at)
 
 abbrev pub IsDelivered : Making → Statement → Type 0
 IsDelivered m s = (e : Envelope) × (m.event.what ≡ what.Deliver e) × (e.msg ≡ msg.Statement s)
 
--- the rows of the shard that the statement saw: those of the list of commits, under what its transaction wrote before
+-- the rows of the shard that the statement saw: those of the list of commits, under what its
+-- transaction wrote before
 abbrev pub answered_before : Past → Tag → ℕ → List Answered
-answered_before past tag k = filter (λ a. nat_lt a.k k) (of_tag tag (answered_in past.routers past.run))
+answered_before past tag k =
+    filter (λ a. nat_lt a.k k) (of_tag tag (answered_in past.routers past.run))
 
 abbrev pub rows_there : Past → Making → Statement → List Row
 rows_there past m s =
     rows_at (here (shard_of past.chunks (ns_of s.op)) m.shard)
-    (under (ns_of s.op) (view (commits_of past.now) (read_time m s) (ns_of s.op)) (own_writes (commits_of past.now) [] (answered_before past m.tag s.k)))
+    (under (ns_of s.op) (view (commits_of past.now) (read_time m s) (ns_of s.op))
+    (own_writes (commits_of past.now) [] (answered_before past m.tag s.k)))
 
 -- boots and floors of a journal, in their order
 abbrev pub boot_in : Rec → Option ℕ
@@ -209,32 +221,40 @@ pub record HasFailed (run : List Ran) (shard : ℕ) (within : ℕ) (faults : ℕ
   pub since : (i : ℕ) → place < i → i ≤ within → slice_get run i ≢ Some (Swapped (Shard shard))
 
 -- Why a router may send an Abort: what it had taken before.
-pub record Took (past : Past) (n : ℕ) (within : ℕ) (P : Ledger → RouterState → NodeEvent → NodeAnswer → Type 0) : Type 0 where
+pub record Took (past : Past) (n : ℕ) (within : ℕ)
+    (P : Ledger → RouterState → NodeEvent → NodeAnswer → Type 0) : Type 0 where
   pub place : ℕ
   pub event : NodeEvent
   pub answer : NodeAnswer
   pub faults : ℕ
   pub router : RouterState
   pub step : slice_get past.run place ≡ Some (Step (Router n) event answer faults)
-  pub there : slice_get (ledger_behind (fresh_ledger past.routers) (take place past.run)).routers n ≡ Some router
+  pub there : slice_get (ledger_behind (fresh_ledger past.routers) (take place past.run)).routers n
+      ≡ Some router
   pub earlier : place ≤ within
-  pub holds : P (ledger_behind (fresh_ledger past.routers) (take place past.run)) router event answer
+  pub holds : P (ledger_behind (fresh_ledger past.routers) (take place past.run)) router
+      event answer
 
--- a request of the session with a larger number; a command by itself is one of its connection's own session
+-- a request of the session with a larger number; a command by itself is one of its connection's own
+-- session
 abbrev pub IsLarger : Lsid → ℤ → RouterState → Asked → Type 0
 IsLarger lsid number r asked = elim (txn_of asked.1) [
   | Some txn ↦ (txn.lsid ≡ lsid) × (number <ℤ txn.number)
-  | None ↦ elim (asked.1) [ request.Statement op txn at after more time ↦ lsid ≡ Own r.number r.boot asked.0 | _ ↦ ⊥ ]
+  | None ↦ elim (asked.1)
+      [ request.Statement op txn at after more time ↦ lsid ≡ Own r.number r.boot asked.0 | _ ↦ ⊥ ]
 ]
 
-abbrev pub Asks : (RouterState → Asked → Type 0) → Ledger → RouterState → NodeEvent → NodeAnswer → Type 0
+abbrev pub Asks : (RouterState → Asked → Type 0) → Ledger → RouterState → NodeEvent
+    → NodeAnswer → Type 0
 Asks P l r e a = (asked : Asked) × (request_at r e a ≡ Some asked) × P r asked
 
 abbrev pub AbortsIt : Lsid → ℤ → RouterState → Asked → Type 0
-AbortsIt lsid number r asked = (txn : Txn) × (more : Bool) × (time : Option ℕ) × (asked.1 ≡ request.Abort (Some txn) more time) × (txn.lsid ≡ lsid) × (txn.number ≡ number)
+AbortsIt lsid number r asked = (txn : Txn) × (more : Bool) × (time : Option ℕ)
+    × (asked.1 ≡ request.Abort (Some txn) more time) × (txn.lsid ≡ lsid) × (txn.number ≡ number)
 
 abbrev pub EndsIt : Lsid → RouterState → Asked → Type 0
-EndsIt lsid r asked = (ids : List Lsid) × (more : Bool) × (time : Option ℕ) × (asked.1 ≡ request.EndSessions ids more time) × Contains ids lsid
+EndsIt lsid r asked = (ids : List Lsid) × (more : Bool) × (time : Option ℕ)
+    × (asked.1 ≡ request.EndSessions ids more time) × Contains ids lsid
 
 abbrev pub SeeksIt : Tag → RouterState → Asked → Type 0
 SeeksIt tag r asked = elim (asked.1) [
@@ -243,7 +263,8 @@ SeeksIt tag r asked = elim (asked.1) [
 ]
 
 abbrev pub LeavesIt : Tag → Ledger → RouterState → NodeEvent → NodeAnswer → Type 0
-LeavesIt tag l r e a = (u : Unanswered) × Contains l.unanswered u × (u.tag ≡ tag) × (e.what ≡ what.Gone u.conn)
+LeavesIt tag l r e a = (u : Unanswered) × Contains l.unanswered u × (u.tag ≡ tag)
+    × (e.what ≡ what.Gone u.conn)
 
 abbrev pub RefusesIt : Tag → Msg → Type 0
 RefusesIt tag (msg.Answer a) = (a.tag ≡ tag) × ((why : Cause) × (a.outcome ≡ Err why))
@@ -282,27 +303,38 @@ pub record HasVoted (past : Past) (tag : Tag) (shard : ℕ) (code : ℕ) : Type 
 abbrev pub Stood : Past → Making → Cause → Type 0
 Stood past m (cause.WriteConflict id (by.Tag other)) = has_version id other (part_at m).store ≡ true
 Stood past m (cause.WriteConflict id (by.At at)) =
-    (e : Entry) × Contains (commits_of past.now) e × (e.at ≡ at) × (writes_id id e.writes ≡ true) × ((s : Statement) → IsDelivered m s → read_time m s < at)
+    (e : Entry) × Contains (commits_of past.now) e × (e.at ≡ at) × (writes_id id e.writes ≡ true)
+    × ((s : Statement) → IsDelivered m s → read_time m s < at)
 Stood past m (cause.Expired begun now) =
-    (o : Open) × (open_of m.before.core.part m.lsid ≡ Some o) × (o.tag ≡ m.tag) × (begun ≡ o.begun) × (now ≡ (entered m.before.core m.event).wall) × (begun + 60 < now)
-Stood past m (cause.ClientAbort why) = ((e : Envelope) × (m.event.what ≡ what.Deliver e) × Aborts m.tag why e.msg) × Reason past m why
+    (o : Open) × (open_of m.before.core.part m.lsid ≡ Some o) × (o.tag ≡ m.tag) × (begun ≡ o.begun)
+    × (now ≡ (entered m.before.core m.event).wall) × (begun + 60 < now)
+Stood past m (cause.ClientAbort why) =
+    ((e : Envelope) × (m.event.what ≡ what.Deliver e) × Aborts m.tag why e.msg) × Reason past m why
 Stood past m (cause.Unavailable carried have) =
-    (boots : List ℕ) × (filter_map boot_in m.before.records ≡ boots ++ have ∷ []) × Contains boots carried
+    (boots : List ℕ) × (filter_map boot_in m.before.records ≡ boots ++ have ∷ [])
+    × Contains boots carried
 Stood past m (cause.Faulted faults) = HasFailed past.run m.shard m.place faults
-Stood past m (cause.Statement err) = (s : Statement) × IsDelivered m s × (eval s.op (rows_there past m s) ≡ Err err)
+Stood past m (cause.Statement err) = (s : Statement) × IsDelivered m s
+    × (eval s.op (rows_there past m s) ≡ Err err)
 Stood past m (cause.Replaced number other) =
-    (s : Session) × ((session m.before.core.part m.lsid ≡ Some s) ⊎ (session m.after.core.part m.lsid ≡ Some s)) × (s.number ≡ number) × (s.tag ≡ other)
+    (s : Session) × ((session m.before.core.part m.lsid ≡ Some s)
+    ⊎ (session m.after.core.part m.lsid ≡ Some s)) × (s.number ≡ number) × (s.tag ≡ other)
     × ((m.number <ℤ number) ⊎ ((m.number ≡ number) × (other ≢ m.tag)))
 Stood past m (cause.Volume bytes) =
-    (s : Statement) × IsDelivered m s × (bytes ≡ volume (write_set (unwrap_or (option_map (λ (o : Open). o.writes) (live_at m)) [] ++ writes_of (eval s.op (rows_there past m s)))))
+    (s : Statement) × IsDelivered m s
+    × (bytes ≡ volume (write_set (unwrap_or (option_map (λ (o : Open). o.writes) (live_at m)) []
+    ++ writes_of (eval s.op (rows_there past m s)))))
     × (most_written < bytes)
 Stood past m (cause.ClockEnd last) = ((core_at m).clock.last ≡ last) × (last ≡ 2 ^ 64 - 1)
 Stood past m (cause.PreparedStands other) =
-    (s : Session) × (session (part_at m) m.lsid ≡ Some s) × (s.tag ≡ other) × ((at : ℕ) × (coordinator : ℕ) × (s.state ≡ state.Prepared at coordinator))
-Stood past m cause.TooManySessions = (is_full (part_at m).sessions ≡ true) × (session (part_at m) m.lsid ≡ None)
+    (s : Session) × (session (part_at m) m.lsid ≡ Some s) × (s.tag ≡ other)
+    × ((at : ℕ) × (coordinator : ℕ) × (s.state ≡ state.Prepared at coordinator))
+Stood past m cause.TooManySessions = (is_full (part_at m).sessions ≡ true)
+    × (session (part_at m) m.lsid ≡ None)
 Stood past m (cause.Voted shard code) = HasVoted past m.tag shard code
 Stood past m cause.Memory = Unit {0}
-Stood past m (cause.SnapshotTooOld at floor) = (floors : List ℕ) × (filter_map floor_in m.before.records ≡ floors ++ floor ∷ []) × (at < floor)
+Stood past m (cause.SnapshotTooOld at floor) = (floors : List ℕ)
+    × (filter_map floor_in m.before.records ≡ floors ++ floor ∷ []) × (at < floor)
 
 -- each cause that was told has its making
 pub record HasCause (past : Past) (place : ℕ) (tag : Tag) (shard : ℕ) (why : Cause) : Type 0 where

@@ -1,5 +1,6 @@
 -- When all that a run told of a transaction agrees with the list of commits.
-use Rattle.std.specs.Prelude.{◌≡◌, ◌<◌, ℕ, ◌+◌, ◌==◌, Bool, true, false, not, List, [], length, take, All, Contains, IsTrue, Option, Some, None, slice_get}
+use Rattle.std.specs.Prelude.{◌≡◌, ◌<◌, ℕ, ◌+◌, ◌==◌, Bool, true, false, not, List, [], length}
+use Rattle.std.specs.Prelude.{take, All, Contains, IsTrue, Option, Some, None, slice_get}
 use Rattle.txn_types.specs.declared.decision.Token.{Token}
 use Rattle.txn_types.specs.declared.decision.Told.TheVariants.{Released}
 use Rattle.txn_types.specs.declared.event.Happening.TheVariants.{Deliver}
@@ -49,7 +50,8 @@ pub record WasReleased (run : List Ran) (tag : Tag) (shard : ℕ) : Type 0 where
   pub faults : ℕ
   pub envelope : Envelope
   pub outcome : Outcome
-  pub step : slice_get run place ≡ Some (Step (Router tag.router) (record { wall = wall; what = Deliver envelope }) answer faults)
+  pub step : slice_get run place ≡ Some (Step (Router tag.router)
+      (record { wall = wall; what = Deliver envelope }) answer faults)
   pub msg : envelope.msg ≡ msg.Outcome outcome
   pub of : outcome.tag ≡ tag
   pub from : outcome.shard ≡ shard
@@ -59,20 +61,26 @@ pub record WasReleased (run : List Ran) (tag : Tag) (shard : ℕ) : Type 0 where
 abbrev pub AllReleased : List Ran → Tag → Type 0
 AllReleased run tag = (shard : ℕ) → WasAsked run tag shard → WasReleased run tag shard
 
--- What was told of a transaction: a commit that wrote has its entry, one without a write was released by each participant
--- before the reply, and one that is told as aborted, or with a cause, has no entry.
+-- What was told of a transaction: a commit that wrote has its entry, one without a write was
+-- released by each participant before the reply, and one that is told as aborted, or with a cause,
+-- has no entry.
 abbrev pub Agrees : List Ran → List Entry → List Answered → ℕ → Tag → Meant → Type 0
 Agrees run entries answered place tag Done =
-    (has_written entries answered tag ≡ true → has_entry entries tag ≡ true) × (has_written entries answered tag ≡ false → AllReleased (take (place + 1) run) tag)
+    (has_written entries answered tag ≡ true → has_entry entries tag ≡ true)
+    × (has_written entries answered tag ≡ false → AllReleased (take (place + 1) run) tag)
 Agrees run entries answered place tag Undone = has_entry entries tag ≡ false
 Agrees run entries answered place tag (Caused shard cause) = has_entry entries tag ≡ false
 
--- of transactions that began in this run; so no two attempts to commit one that wrote are told different decisions
-abbrev pub OneDecision : (Tag → Bool) → List Ran → List Entry → List Answered → List Telling → Type 0
-OneDecision began run entries answered told = All (λ t. IsTrue (began t.tag) → Agrees run entries answered t.place t.tag t.meant) told
+-- of transactions that began in this run; so no two attempts to commit one that wrote are told
+-- different decisions
+abbrev pub OneDecision : (Tag → Bool) → List Ran → List Entry → List Answered
+    → List Telling → Type 0
+OneDecision began run entries answered told =
+    All (λ t. IsTrue (began t.tag) → Agrees run entries answered t.place t.tag t.meant) told
 
--- Tokens are handed back as they were told: each that commits a transaction which the asked router hasn't begun stood in an
--- earlier reply of the run to a request of the same session and number. What is told of transactions rests on this.
+-- Tokens are handed back as they were told: each that commits a transaction which the asked router
+-- hasn't begun stood in an earlier reply of the run to a request of the same session and number.
+-- What is told of transactions rests on this.
 
 pub record WasGiven (replied : List Replied) (place : ℕ) (txn : Txn) (t : Token) : Type 0 where
   pub earlier : Replied
@@ -96,8 +104,11 @@ held_at l other = []
 -- a request in hand that commits by a token
 abbrev pub IsGiven : List Replied → ℕ → Hand → Type 0
 IsGiven replied place h =
-    (txn : Txn) (t : Token) (more : Bool) (time : Option ℕ) → h.request ≡ request.Commit (Some txn) (Some t) more time → h.here ≡ false → WasGiven replied place txn t
+    (txn : Txn) (t : Token) (more : Bool) (time : Option ℕ)
+    → h.request ≡ request.Commit (Some txn) (Some t) more time → h.here ≡ false
+    → WasGiven replied place txn t
 
 abbrev pub TokensGiven : List RouterState → List Ran → Type 0
 TokensGiven routers run =
-    (place : ℕ) (ran : Ran) → slice_get run place ≡ Some ran → All (IsGiven (all_replied routers run) place) (held_at (ledger_behind (fresh_ledger routers) (take place run)) ran)
+    (place : ℕ) (ran : Ran) → slice_get run place ≡ Some ran → All (IsGiven (all_replied routers
+    run) place) (held_at (ledger_behind (fresh_ledger routers) (take place run)) ran)

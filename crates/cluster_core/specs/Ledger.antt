@@ -1,5 +1,7 @@
--- What a run of a cluster has come to at its routers: a function of its events and of the routers' messages.
-use Rattle.std.specs.Prelude.{ℕ, ◌+◌, ◌++◌, not, List, [], ◌∷◌, map, filter, nat_eq, Option, Some, None, slice_get, slice_set, if◌then◌else◌}
+-- What a run of a cluster has come to at its routers: a function of its events and of the routers'
+-- messages.
+use Rattle.std.specs.Prelude.{ℕ, ◌+◌, ◌++◌, not, List, [], ◌∷◌, map, filter, nat_eq, Option, Some}
+use Rattle.std.specs.Prelude.{None, slice_get, slice_set, if◌then◌else◌}
 use Rattle.txn_types.specs.declared.event.NodeAnswer.{NodeAnswer}
 use Rattle.txn_types.specs.declared.event.NodeEvent.{NodeEvent}
 use Rattle.txn_types.specs.declared.message.Statement.{Statement}
@@ -10,11 +12,12 @@ use Rattle.txn_model.specs.declared.ran.Ran.{Ran}
 use Rattle.txn_model.specs.declared.ran.Ran.TheVariants.{Step, Swapped}
 use Rattle.cluster_core.specs.Trace.{again}
 use Rattle.cluster_core.specs.Routers.{is_memory, turn_of}
-use Rattle.cluster_core.specs.Answering.{Unanswered, statements_in, unanswered_behind, left_unanswered, answered_among}
+use Rattle.cluster_core.specs.Answering.{Unanswered, statements_in, unanswered_behind}
+use Rattle.cluster_core.specs.Answering.{left_unanswered, answered_among}
 use Rattle.cluster_core.specs.Replying.{Hand, Replied, held_in, replied_in, left_in_hand}
 
--- its routers, how many steps there were, each statement's part that was sent, the statements that aren't answered, and
--- the requests that connections have in hand
+-- its routers, how many steps there were, each statement's part that was sent, the statements that
+-- aren't answered, and the requests that connections have in hand
 pub record Ledger : Type 0 where
   pub routers : List RouterState
   pub place : ℕ
@@ -23,9 +26,11 @@ pub record Ledger : Type 0 where
   pub hands : List Hand
 
 abbrev pub fresh_ledger : List RouterState → Ledger
-fresh_ledger routers = record { routers = routers; place = 0; begun = []; unanswered = []; hands = [] }
+fresh_ledger routers =
+    record { routers = routers; place = 0; begun = []; unanswered = []; hands = [] }
 
--- what a step does at its router: the ledger behind it, the statements that it answers, and its replies
+-- what a step does at its router: the ledger behind it, the statements that it answers, and its
+-- replies
 pub record Entered : Type 0 where
   pub ledger : Ledger
   pub answered : List Answered
@@ -71,7 +76,8 @@ swapped l n (Some r) =
 unfoldable pub entered_by : Ledger → Ran → Entered
 entered_by l (Step (Router n) e a faults) = entered l n (slice_get l.routers n) e a
 entered_by l (Step (Shard n) e a faults) = passed l
-entered_by l (Swapped (Router n)) = record { ledger = swapped l n (slice_get l.routers n); answered = []; replied = [] }
+entered_by l (Swapped (Router n)) =
+    record { ledger = swapped l n (slice_get l.routers n); answered = []; replied = [] }
 entered_by l (Swapped (Shard n)) = passed l
 
 -- behind a run
@@ -82,12 +88,14 @@ ledger_behind l (ran ∷ run) = ledger_behind (entered_by l ran).ledger run
 -- the statements that a run answers, in their order
 abbrev pub answered_from : Ledger → List Ran → List Answered
 answered_from l [] = []
-answered_from l (ran ∷ run) = (entered_by l ran).answered ++ answered_from (entered_by l ran).ledger run
+answered_from l (ran ∷ run) =
+    (entered_by l ran).answered ++ answered_from (entered_by l ran).ledger run
 
 -- its replies to requests, in their order
 abbrev pub replied_from : Ledger → List Ran → List Replied
 replied_from l [] = []
-replied_from l (ran ∷ run) = (entered_by l ran).replied ++ replied_from (entered_by l ran).ledger run
+replied_from l (ran ∷ run) =
+    (entered_by l ran).replied ++ replied_from (entered_by l ran).ledger run
 
 -- of a run that begins with these routers
 abbrev pub answered_in : List RouterState → List Ran → List Answered

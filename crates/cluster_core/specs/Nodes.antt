@@ -11,7 +11,8 @@ pub record Nodes : Type 0 where
   pub routers : List RouterState
   pub sent : List Envelope
 
--- the records of the shards' journals; of a shard whose append failed those before it, until it starts again
+-- the records of the shards' journals; of a shard whose append failed those before it, until it
+-- starts again
 abbrev pub journals_of : Nodes → Journals
 journals_of nodes = map (λ n. n.records) nodes.shards
 

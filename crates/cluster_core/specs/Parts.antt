@@ -1,6 +1,7 @@
--- What holds of clocks, records and messages together, in each state that a cluster comes to. Each part is kept by every
--- event, and what is right of a run rests on all of them.
-use Rattle.std.specs.Prelude.{◌≡◌, ◌≤◌, ◌<◌, ◌⊎◌, ◌<ℤ◌, ℕ, ℤ, List, filter_map, All, Contains, Option, Some, None, IfSome, slice_get, Ok, Err}
+-- What holds of clocks, records and messages together, in each state that a cluster comes to. Each
+-- part is kept by every event, and what is right of a run rests on all of them.
+use Rattle.std.specs.Prelude.{◌≡◌, ◌≤◌, ◌<◌, ◌⊎◌, ◌<ℤ◌, ℕ, ℤ, List, filter_map, All, Contains}
+use Rattle.std.specs.Prelude.{Option, Some, None, IfSome, slice_get, Ok, Err}
 use Rattle.txn_types.specs.declared.decision.Decision.{Decision}
 use Rattle.txn_types.specs.declared.decision.Decision.TheVariants as decision
 use Rattle.txn_types.specs.declared.decision.Told.TheVariants as told
@@ -40,8 +41,8 @@ last_ceiling recs = (ledger_of recs).ceiling
 abbrev pub ClockBelowCeiling : NodeState → Type 0
 ClockBelowCeiling n = IsRunning n → n.core.clock.last ≤ last_ceiling n.records
 
--- Each read timestamp that a shard answered, and each timestamp in its records, is at or below its clock while it runs,
--- and at or below its last ceiling.
+-- Each read timestamp that a shard answered, and each timestamp in its records, is at or below its
+-- clock while it runs, and at or below its last ceiling.
 
 abbrev pub IsBehind : NodeState → ℕ → Type 0
 IsBehind n time = (IsRunning n → time ≤ n.core.clock.last) × (time ≤ last_ceiling n.records)
@@ -70,23 +71,28 @@ pub record ReadsBehind (nodes : Nodes) : Type 0 where
   pub answers : All (AnswersBehind nodes) nodes.sent
   pub records : All RecordsBehind nodes.shards
 
--- A boot in a message is at most the shard's, but for that of a Recover, which is a token's. Where they are equal, the
--- transaction is there as the statements that were answered in that boot left it, or it has ended there.
+-- A boot in a message is at most the shard's, but for that of a Recover, which is a token's. Where
+-- they are equal, the transaction is there as the statements that were answered in that boot left
+-- it, or it has ended there.
 
 -- it is the session's transaction, or the session has gone on
 abbrev pub HasCome : Part → Lsid → ℤ → Tag → Type 0
-HasCome p lsid number tag = (s : Session) × (session p lsid ≡ Some s) × ((s.tag ≡ tag) ⊎ (number <ℤ s.number))
+HasCome p lsid number tag = (s : Session) × (session p lsid ≡ Some s)
+    × ((s.tag ≡ tag) ⊎ (number <ℤ s.number))
 
 abbrev pub KnowsBoot : Nodes → ℕ → ℕ → Lsid → ℤ → Tag → Type 0
-KnowsBoot nodes shard boot lsid number tag = AtShard nodes shard (λ n. (boot ≤ n.core.part.boot) × (boot ≡ n.core.part.boot → HasCome n.core.part lsid number tag))
+KnowsBoot nodes shard boot lsid number tag = AtShard nodes shard (λ n. (boot ≤ n.core.part.boot)
+    × (boot ≡ n.core.part.boot → HasCome n.core.part lsid number tag))
 
 abbrev pub KnowsParts : Nodes → List (ℕ × ℕ) → Lsid → ℤ → Tag → Type 0
-KnowsParts nodes parts lsid number tag = All (λ part. KnowsBoot nodes part.0 part.1 lsid number tag) parts
+KnowsParts nodes parts lsid number tag =
+    All (λ part. KnowsBoot nodes part.0 part.1 lsid number tag) parts
 
 abbrev pub KnowsAsked : Nodes → ℕ → Msg → Type 0
 KnowsAsked nodes shard (msg.Statement m) = KnowsBoot nodes shard m.boot m.lsid m.number m.tag
 KnowsAsked nodes shard (msg.Commit m) = KnowsBoot nodes shard m.boot m.lsid m.number m.tag
-KnowsAsked nodes shard (msg.CommitTwo m) = KnowsBoot nodes shard m.boot m.lsid m.number m.tag × KnowsParts nodes m.parts m.lsid m.number m.tag
+KnowsAsked nodes shard (msg.CommitTwo m) = KnowsBoot nodes shard m.boot m.lsid m.number m.tag
+    × KnowsParts nodes m.parts m.lsid m.number m.tag
 KnowsAsked nodes shard (msg.Prepare m) = KnowsBoot nodes shard m.boot m.lsid m.number m.tag
 KnowsAsked nodes shard other = Unit {0}
 
@@ -96,15 +102,19 @@ KnowsTold nodes (msg.Outcome o) = AtShard nodes o.shard (λ n. o.boot ≤ n.core
 KnowsTold nodes other = Unit {0}
 
 abbrev pub KnowsBoots : Nodes → Envelope → Type 0
-KnowsBoots nodes e = elim (e.to) [ Shard shard ↦ KnowsAsked nodes shard e.msg | Router router ↦ KnowsTold nodes e.msg ]
+KnowsBoots nodes e = elim (e.to)
+    [ Shard shard ↦ KnowsAsked nodes shard e.msg | Router router ↦ KnowsTold nodes e.msg ]
 
--- what a live transaction of a running shard has is what its newest statement there was answered in this boot (a shard
--- whose append of a ceiling failed at a statement has begun to serve it, and is stopped)
+-- what a live transaction of a running shard has is what its newest statement there was answered in
+-- this boot (a shard whose append of a ceiling failed at a statement has begun to serve it, and is
+-- stopped)
 abbrev pub IsAnswer : NodeState → Open → Answer → Type 0
-IsAnswer n o a = (a.tag ≡ o.tag) × (a.k ≡ o.k) × (a.shard ≡ n.core.part.shard) × (a.boot ≡ n.core.part.boot) × (a.read_at ≡ o.read_at) × (a.outcome ≡ Ok (o.reply, o.wrote))
+IsAnswer n o a = (a.tag ≡ o.tag) × (a.k ≡ o.k) × (a.shard ≡ n.core.part.shard)
+    × (a.boot ≡ n.core.part.boot) × (a.read_at ≡ o.read_at) × (a.outcome ≡ Ok (o.reply, o.wrote))
 
 abbrev pub WasAnswered : Nodes → NodeState → Open → Type 0
-WasAnswered nodes n o = (e : Envelope) × (a : Answer) × Contains nodes.sent e × (e.msg ≡ msg.Answer a) × IsAnswer n o a
+WasAnswered nodes n o = (e : Envelope) × (a : Answer) × Contains nodes.sent e
+    × (e.msg ≡ msg.Answer a) × IsAnswer n o a
 
 abbrev pub LiveAsAnswered : Nodes → NodeState → Type 0
 LiveAsAnswered nodes n = IsRunning n → All (λ entry. WasAnswered nodes n entry.1) n.core.part.live
@@ -116,7 +126,8 @@ pub record BootsKnown (nodes : Nodes) : Type 0 where
 -- A vote with a time has its record, and so has each commit that was told.
 
 abbrev pub IsPreparedAs : Tag → ℕ → Rec → Type 0
-IsPreparedAs tag at (rec.Prepared there lsid number boot read_at time coordinator writes) = (there ≡ tag) × (time ≡ at)
+IsPreparedAs tag at (rec.Prepared there lsid number boot read_at time coordinator writes) =
+    (there ≡ tag) × (time ≡ at)
 IsPreparedAs tag at other = ⊥
 
 abbrev pub IsCommitAs : Tag → ℕ → Rec → Type 0
@@ -125,13 +136,16 @@ IsCommitAs tag at (rec.CoordDecision there d) = (there ≡ tag) × (d ≡ decisi
 IsCommitAs tag at other = ⊥
 
 abbrev pub HasPrepared : Nodes → ℕ → Tag → ℕ → Type 0
-HasPrepared nodes shard tag at = (r : Rec) × Contains (records_of (journals_of nodes) shard) r × IsPreparedAs tag at r
+HasPrepared nodes shard tag at = (r : Rec) × Contains (records_of (journals_of nodes) shard) r
+    × IsPreparedAs tag at r
 
 abbrev pub HasCommit : Nodes → Tag → ℕ → Type 0
-HasCommit nodes tag at = (recs : List Rec) × (r : Rec) × Contains (journals_of nodes) recs × Contains recs r × IsCommitAs tag at r
+HasCommit nodes tag at = (recs : List Rec) × (r : Rec) × Contains (journals_of nodes) recs
+    × Contains recs r × IsCommitAs tag at r
 
 abbrev pub VoteRecorded : Nodes → Vote → Type 0
-VoteRecorded nodes v = elim (v.vote) [ Ok at ↦ HasPrepared nodes v.shard v.tag at | Err why ↦ Unit {0} ]
+VoteRecorded nodes v =
+    elim (v.vote) [ Ok at ↦ HasPrepared nodes v.shard v.tag at | Err why ↦ Unit {0} ]
 
 abbrev pub OutcomeRecorded : Nodes → Outcome → Type 0
 OutcomeRecorded nodes o = elim (o.told) [
@@ -152,7 +166,8 @@ IsRecorded nodes other = Unit {0}
 abbrev pub CommitsRecorded : Nodes → Type 0
 CommitsRecorded nodes = All (λ e. IsRecorded nodes e.msg) nodes.sent
 
--- What is prepared and not decided has a coordinator that holds it; a commit is at or above its timestamp.
+-- What is prepared and not decided has a coordinator that holds it; a commit is at or above its
+-- timestamp.
 
 abbrev pub AtOrAbove : ℕ → Option Decision → Type 0
 AtOrAbove at None = Unit {0}
@@ -161,7 +176,8 @@ AtOrAbove at (Some (decision.Commit time)) = at ≤ time
 
 -- the transaction is prepared, by a record that names the coordinator
 abbrev pub NamesCoordinator : Tag → ℕ → ℕ → Rec → Type 0
-NamesCoordinator tag at coordinator (rec.Prepared there lsid number boot read_at time other writes) = (there ≡ tag) × (time ≡ at) × (other ≡ coordinator)
+NamesCoordinator tag at coordinator (rec.Prepared there lsid number boot read_at time other
+    writes) = (there ≡ tag) × (time ≡ at) × (other ≡ coordinator)
 NamesCoordinator tag at coordinator other = ⊥
 
 pub record IsCoordinated (nodes : Nodes) (recs : List Rec) (s : Standing) : Type 0 where
@@ -170,14 +186,16 @@ pub record IsCoordinated (nodes : Nodes) (recs : List Rec) (s : Standing) : Type
   pub stood : Contains recs prepared
   pub names : NamesCoordinator s.tag s.at coordinator prepared
   pub decision : Option Decision
-  pub held : coordination_of (ledger_of (records_of (journals_of nodes) coordinator)) s.tag ≡ Some decision
+  pub held : coordination_of (ledger_of (records_of (journals_of nodes) coordinator)) s.tag
+      ≡ Some decision
   pub above : AtOrAbove s.at decision
 
 abbrev pub PreparedCoordinated : Nodes → Type 0
-PreparedCoordinated nodes = All (λ recs. All (IsCoordinated nodes recs) (ledger_of recs).standing) (journals_of nodes)
+PreparedCoordinated nodes =
+    All (λ recs. All (IsCoordinated nodes recs) (ledger_of recs).standing) (journals_of nodes)
 
--- A tag stands for one begin at one router: what names it names one session and number, its serial was drawn there, and
--- a router begins one transaction for a session and number in a boot.
+-- A tag stands for one begin at one router: what names it names one session and number, its serial
+-- was drawn there, and a router begins one transaction for a session and number in a boot.
 
 -- what the messages name that were ever sent
 abbrev pub names_of : Nodes → List Named
@@ -187,6 +205,10 @@ abbrev pub WasDrawn : RouterState → Tag → Type 0
 WasDrawn r tag = (tag.boot < r.boot) ⊎ ((tag.boot ≡ r.boot) × (tag.serial ≤ r.serial))
 
 pub record TagsBegunOnce (nodes : Nodes) : Type 0 where
-  pub one_begin : (a b : Named) → Contains (names_of nodes) a → Contains (names_of nodes) b → a.tag ≡ b.tag → (a.lsid ≡ b.lsid) × (a.number ≡ b.number)
-  pub drawn : (a : Named) → Contains (names_of nodes) a → (r : RouterState) × (slice_get nodes.routers a.tag.router ≡ Some r) × WasDrawn r a.tag
-  pub one_tag : (a b : Named) → Contains (names_of nodes) a → Contains (names_of nodes) b → a.lsid ≡ b.lsid → a.number ≡ b.number → a.tag.router ≡ b.tag.router → a.tag.boot ≡ b.tag.boot → a.tag ≡ b.tag
+  pub one_begin : (a b : Named) → Contains (names_of nodes) a → Contains (names_of nodes) b
+      → a.tag ≡ b.tag → (a.lsid ≡ b.lsid) × (a.number ≡ b.number)
+  pub drawn : (a : Named) → Contains (names_of nodes) a
+      → (r : RouterState) × (slice_get nodes.routers a.tag.router ≡ Some r) × WasDrawn r a.tag
+  pub one_tag : (a b : Named) → Contains (names_of nodes) a → Contains (names_of nodes) b
+      → a.lsid ≡ b.lsid → a.number ≡ b.number → a.tag.router ≡ b.tag.router
+      → a.tag.boot ≡ b.tag.boot → a.tag ≡ b.tag

@@ -1,7 +1,8 @@
--- When a run is right: its answers are those of one list of committed write sets. Each statement sees exactly the writes
--- committed at or below its read timestamp, under its own; no two overlapping committed transactions wrote one document;
--- two-phase commits carry the greatest prepare timestamp and are nowhere aborted; and what was told of a transaction agrees
--- with the list, and has its cause.
+-- When a run is right: its answers are those of one list of committed write sets. Each statement
+-- sees exactly the writes committed at or below its read timestamp, under its own; no two
+-- overlapping committed transactions wrote one document; two-phase commits carry the greatest
+-- prepare timestamp and are nowhere aborted; and what was told of a transaction agrees with the
+-- list, and has its cause.
 use Rattle.std.specs.Prelude.{ℕ, List, map}
 use Rattle.txn_semantics.specs.Answers.{ReadsRight, RefusedRight, FirstCommitter, Whole, began}
 use Rattle.chunk_map.specs.Map.{Map}
@@ -20,10 +21,11 @@ abbrev pub boots_of : List RouterState → List ℕ
 boots_of routers = map (λ r. r.boot) routers
 
 abbrev pub past_of : Map → Nodes → List Ran → List Nodes → Nodes → Past
-past_of chunks start run trace now = record { chunks = chunks; routers = start.routers; run = run; trace = trace; now = now }
+past_of chunks start run trace now =
+    record { chunks = chunks; routers = start.routers; run = run; trace = trace; now = now }
 
--- The list of commits is that of the journals as they are now. What is told of transactions rests on tokens that were
--- handed back as they were told.
+-- The list of commits is that of the journals as they are now. What is told of transactions rests
+-- on tokens that were handed back as they were told.
 pub record Right (chunks : Map) (start : Nodes) (run : List Ran) (now : Nodes) : Type 0 where
   pub trace : List Nodes
   pub is_trace : IsTrace start run trace now
@@ -34,5 +36,7 @@ pub record Right (chunks : Map) (start : Nodes) (run : List Ran) (now : Nodes) :
   pub greatest : DecisionsGreatest (journals_of now)
   pub nowhere_aborted : NowhereAborted (journals_of now) (commits_of now)
   pub told : ToldRight (answered_in start.routers run) (all_replied start.routers run)
-  pub one_decision : TokensGiven start.routers run → OneDecision (began (boots_of start.routers)) run (commits_of now) (answered_in start.routers run) (told_in start.routers run)
-  pub causes : TokensGiven start.routers run → AllCaused (past_of chunks start run trace now) (told_in start.routers run)
+  pub one_decision : TokensGiven start.routers run → OneDecision (began (boots_of start.routers))
+      run (commits_of now) (answered_in start.routers run) (told_in start.routers run)
+  pub causes : TokensGiven start.routers run
+      → AllCaused (past_of chunks start run trace now) (told_in start.routers run)

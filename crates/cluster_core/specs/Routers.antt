@@ -1,5 +1,7 @@
--- The routers of a run: a router's state is a function of the events that it took, and of the boots at which it started.
-use Rattle.std.specs.Prelude.{ℕ, Bool, true, false, Option, Some, None, max, Result, Ok, Err, if◌then◌else◌}
+-- The routers of a run: a router's state is a function of the events that it took, and of the boots
+-- at which it started.
+use Rattle.std.specs.Prelude.{ℕ, Bool, true, false, Option, Some, None, max, Result, Ok, Err}
+use Rattle.std.specs.Prelude.{if◌then◌else◌}
 use Rattle.txn_types.specs.declared.event.Happening.{Happening}
 use Rattle.txn_types.specs.declared.event.Happening.TheVariants as what
 use Rattle.txn_types.specs.declared.event.NodeAnswer.{NodeAnswer}
@@ -19,8 +21,8 @@ is_memory other = false
 abbrev pub turn_of : RouterState → NodeEvent → NodeAnswer → RouterTurn
 turn_of r e a = router_step (is_memory a) r e
 
--- A request that a router took: its connection, and what it asks. A message that isn't read as one, one on a connection
--- whose request is unanswered, and one for which there was no memory, are none.
+-- A request that a router took: its connection, and what it asks. A message that isn't read as one,
+-- one on a connection whose request is unanswered, and one for which there was no memory, are none.
 abbrev pub Asked : Type 0
 Asked = ℕ × Request
 
@@ -29,7 +31,8 @@ asked_by conn (Ok request) = Some (conn, request)
 asked_by conn (Err why) = None
 
 abbrev pub asked_at : RouterState → ℕ → Happening → Option Asked
-asked_at r wall (what.Client conn bytes) = if is_waiting r conn then None else asked_by conn (asked_in wall bytes)
+asked_at r wall (what.Client conn bytes) = if is_waiting r conn then None
+    else asked_by conn (asked_in wall bytes)
 asked_at r wall other = None
 
 abbrev pub request_at : RouterState → NodeEvent → NodeAnswer → Option Asked

@@ -1,5 +1,6 @@
 -- What the replies of a run tell of transactions.
-use Rattle.std.specs.Prelude.{◌≡◌, ℕ, ℤ, Bool, true, false, List, filter_map, Option, Some, None, All, Contains, Ok, Err}
+use Rattle.std.specs.Prelude.{◌≡◌, ℕ, ℤ, Bool, true, false, List, filter_map, Option, Some, None}
+use Rattle.std.specs.Prelude.{All, Contains, Ok, Err}
 use Rattle.txn_types.specs.declared.cause.Cause.{Cause}
 use Rattle.txn_types.specs.declared.cause.Cause.TheVariants as cause
 use Rattle.txn_types.specs.declared.decision.Token.{Token}
@@ -28,7 +29,8 @@ pub record Telling : Type 0 where
   pub tag : Tag
   pub meant : Meant
 
--- A commit is tried by `commitTransaction`, and by a command by itself, whose reply tells that it is done.
+-- A commit is tried by `commitTransaction`, and by a command by itself, whose reply tells that it
+-- is done.
 
 abbrev pub is_attempt : Request → Bool
 is_attempt (request.Statement op None at after more time) = true
@@ -82,12 +84,15 @@ IsOf h a = (h.tag ≡ Some a.tag) × (h.k ≡ a.k)
 abbrev pub HasAnswered : List Answered → Hand → Reply → Type 0
 HasAnswered answered h r = (a : Answered) × Contains answered a × IsOf h a × Tells a r
 
--- a reply of counts or documents, one that these are too large, and one of the statement's own refusal
+-- a reply of counts or documents, one that these are too large, and one of the statement's own
+-- refusal
 abbrev pub IsTold : List Answered → Hand → Reply → Type 0
 IsTold answered h (reply.Wrote n modified t) = HasAnswered answered h (reply.Wrote n modified t)
 IsTold answered h (reply.Found ns docs t) = HasAnswered answered h (reply.Found ns docs t)
-IsTold answered h (reply.Refused refusal.ReplyTooLarge) = HasAnswered answered h (reply.Refused refusal.ReplyTooLarge)
-IsTold answered h (reply.Caused shard number (cause.Statement err)) = HasAnswered answered h (reply.Caused shard number (cause.Statement err))
+IsTold answered h (reply.Refused refusal.ReplyTooLarge) =
+    HasAnswered answered h (reply.Refused refusal.ReplyTooLarge)
+IsTold answered h (reply.Caused shard number (cause.Statement err)) =
+    HasAnswered answered h (reply.Caused shard number (cause.Statement err))
 IsTold answered h other = Unit {0}
 
 -- of a statement; a commit may be told a refusal that a shard kept

@@ -1,2 +1,3 @@
-//! All nodes of a cluster and the messages between them: what may happen, and when a run's answers are right.
+//! All nodes of a cluster and the messages between them: what may happen, and when a run's answers
+//! are right.
 #![tactic(auto)]

@@ -1,5 +1,6 @@
 -- Nodes as their starts left them.
-use Rattle.std.proofs.Common.{◌≡◌, ◌<◌, ◌≤◌, ℕ, zero, suc, List, [], ◌∷◌, ◌++◌, length, Some, map, refl, sym, ap, subst, ◌∙◌, arith, slice_get}
+use Rattle.std.proofs.Common.{◌≡◌, ◌<◌, ◌≤◌, ℕ, zero, suc, List, [], ◌∷◌, ◌++◌, length, Some, map}
+use Rattle.std.proofs.Common.{refl, sym, ap, subst, ◌∙◌, arith, slice_get}
 use Rattle.std.proofs.lemmas.List.{length-map}
 use Rattle.shard_core.specs.NodeStep.{NodeState}
 use Rattle.chunk_map.specs.Map.{Map}
@@ -10,54 +11,78 @@ use Rattle.record_store.specs.Logged.{DiskRecords}
 use Rattle.cluster_conf.specs.Conf.{Settings}
 use Rattle.cluster_play.specs.Ended.{AreStarted}
 use Rattle.cluster_play.specs.Steps.{nodes_of}
-use Rattle.cluster_play.specs.Starting.{IsStarted, AllStarted, IsBooted, AllBooted, shard_states, router_states}
+use Rattle.cluster_play.specs.Starting.{IsStarted, AllStarted, IsBooted, AllBooted, shard_states}
+use Rattle.cluster_play.specs.Starting.{router_states}
 
 -- one more at the end of a list
-all_push : {A : Type 0} (P : ℕ → A → Type 0) (xs : List A) (x : A) → ((n : ℕ) (a : A) → slice_get xs n ≡ Some a → P n a) → P (length xs) x → (n : ℕ) (a : A) → slice_get (xs ++ x ∷ []) n ≡ Some a → P n a
+all_push : {A : Type 0} (P : ℕ → A → Type 0) (xs : List A) (x : A)
+    → ((n : ℕ) (a : A) → slice_get xs n ≡ Some a → P n a) → P (length xs) x → (n : ℕ) (a : A)
+    → slice_get (xs ++ x ∷ []) n ≡ Some a → P n a
 all_push P [] x all one zero a is = let same : x ≡ a = cc in subst (P zero) same one
 all_push P [] x all one (suc n) a is = cc
 all_push P (y ∷ ys) x all one zero a is = all zero a is
-all_push P (y ∷ ys) x all one (suc n) a is = all_push (λ k b. P (suc k) b) ys x (λ k b. all (suc k) b) one n a is
+all_push P (y ∷ ys) x all one (suc n) a is =
+    all_push (λ k b. P (suc k) b) ys x (λ k b. all (suc k) b) one n a is
 
-map_push : {A B : Type 0} (f : A → B) (xs : List A) (x : A) → map f (xs ++ x ∷ []) ≡ map f xs ++ f x ∷ []
+map_push : {A B : Type 0} (f : A → B) (xs : List A) (x : A)
+    → map f (xs ++ x ∷ []) ≡ map f xs ++ f x ∷ []
 map_push f [] x = refl
 map_push f (y ∷ ys) x = ap (λ zs. f y ∷ zs) (map_push f ys x)
 
-pub shards_push : {D : Type 0} (shards new : List (ShardOn (DiskRecords D))) (node : ShardOn (DiskRecords D)) (shard : ℕ) → new ≡ shards ++ node ∷ [] → shard ≡ length shards
+pub shards_push : {D : Type 0} (shards new : List (ShardOn (DiskRecords D)))
+    (node : ShardOn (DiskRecords D)) (shard : ℕ) → new ≡ shards ++ node ∷ [] → shard ≡ length shards
     → AllStarted (shard_states shards) → IsStarted shard node.node → AllStarted (shard_states new)
 shards_push {D} shards new node shard is place all one =
     let f : ShardOn (DiskRecords D) → NodeState = λ (n : ShardOn (DiskRecords D)). n.node in
     let at : length (map f shards) ≡ shard = length-map shards f ∙ sym place in
-    let last : IsStarted (length (map f shards)) node.node = subst (λ (k : ℕ). IsStarted k node.node) (sym at) one in
-    let pushed : shard_states new ≡ map f shards ++ node.node ∷ [] = ap (λ (l : List (ShardOn (DiskRecords D))). map f l) is ∙ map_push f shards node in
+    let last : IsStarted (length (map f shards)) node.node =
+    subst (λ (k : ℕ). IsStarted k node.node) (sym at) one in
+    let pushed : shard_states new ≡ map f shards ++ node.node ∷ [] =
+    ap (λ (l : List (ShardOn (DiskRecords D))). map f l) is ∙ map_push f shards node in
     subst AllStarted (sym pushed) (all_push IsStarted (map f shards) node.node all last)
 
-pub routers_push : {D : Type 0} (chunks : Map) (routers new : List (RouterOn (DiskRecords D))) (node : RouterOn (DiskRecords D)) (router : ℕ) → new ≡ routers ++ node ∷ [] → router ≡ length routers
-    → AllBooted chunks (router_states routers) → IsBooted chunks router node.router → AllBooted chunks (router_states new)
+pub routers_push : {D : Type 0} (chunks : Map) (routers new : List (RouterOn (DiskRecords D)))
+    (node : RouterOn (DiskRecords D)) (router : ℕ) → new ≡ routers ++ node ∷ []
+    → router ≡ length routers
+    → AllBooted chunks (router_states routers) → IsBooted chunks router node.router
+    → AllBooted chunks (router_states new)
 routers_push {D} chunks routers new node router is place all one =
     let f : RouterOn (DiskRecords D) → RouterState = λ (n : RouterOn (DiskRecords D)). n.router in
     let at : length (map f routers) ≡ router = length-map routers f ∙ sym place in
-    let last : IsBooted chunks (length (map f routers)) node.router = subst (λ (k : ℕ). IsBooted chunks k node.router) (sym at) one in
-    let pushed : router_states new ≡ map f routers ++ node.router ∷ [] = ap (λ (l : List (RouterOn (DiskRecords D))). map f l) is ∙ map_push f routers node in
-    subst (AllBooted chunks) (sym pushed) (all_push (IsBooted chunks) (map f routers) node.router all last)
+    let last : IsBooted chunks (length (map f routers)) node.router =
+    subst (λ (k : ℕ). IsBooted chunks k node.router) (sym at) one in
+    let pushed : router_states new ≡ map f routers ++ node.router ∷ [] =
+    ap (λ (l : List (RouterOn (DiskRecords D))). map f l) is ∙ map_push f routers node in
+    subst (AllBooted chunks) (sym pushed)
+    (all_push (IsBooted chunks) (map f routers) node.router all last)
 
 -- none
 pub none_started : (shards : List NodeState) → length shards ≡ 0 → AllStarted shards
 none_started [] none = λ n s is. cc
 none_started (s ∷ shards) none = absurd (omega (arith, none))
 
-pub none_booted : (chunks : Map) (routers : List RouterState) → length routers ≡ 0 → AllBooted chunks routers
+pub none_booted : (chunks : Map) (routers : List RouterState) → length routers ≡ 0
+    → AllBooted chunks routers
 none_booted chunks [] none = λ n r is. cc
 none_booted chunks (r ∷ routers) none = absurd (omega (arith, none))
 
-pub are_started : {D : Type 0} (conf : Settings) (shards : List (ShardOn (DiskRecords D))) (routers : List (RouterOn (DiskRecords D))) → 1 ≤ conf.shards → conf.map.shards ≡ conf.shards
-    → AllStarted (shard_states shards) → AllBooted conf.map (router_states routers) → length shards ≡ conf.shards → length routers ≡ conf.routers → AreStarted conf (nodes_of shards routers)
+pub are_started : {D : Type 0} (conf : Settings) (shards : List (ShardOn (DiskRecords D)))
+    (routers : List (RouterOn (DiskRecords D))) → 1 ≤ conf.shards → conf.map.shards ≡ conf.shards
+    → AllStarted (shard_states shards) → AllBooted conf.map (router_states routers)
+    → length shards ≡ conf.shards → length routers ≡ conf.routers
+    → AreStarted conf (nodes_of shards routers)
 are_started {D} conf shards routers some same started booted count many =
     let f : ShardOn (DiskRecords D) → NodeState = λ (n : ShardOn (DiskRecords D)). n.node in
     let h : RouterOn (DiskRecords D) → RouterState = λ (n : RouterOn (DiskRecords D)). n.router in
     let states : length (map f shards) ≡ conf.shards = length-map shards f ∙ count in
     record {
-      fresh = record { shards = started; routers = booted; sent = refl; count = same ∙ sym states; some = subst (λ (k : ℕ). 0 < k) (sym states) (omega (arith, some)) };
+      fresh = record {
+        shards = started;
+        routers = booted;
+        sent = refl;
+        count = same ∙ sym states;
+        some = subst (λ (k : ℕ). 0 < k) (sym states) (omega (arith, some));
+      };
       shards = states;
       routers = length-map routers h ∙ many;
     }

@@ -30,8 +30,10 @@ place_of (Router n) = 16 + n
 abbrev pub HasPlace : Settings → ℕ → Type 0
 HasPlace conf place = (place < conf.shards) ⊎ ((16 ≤ place) × (place < 16 + conf.routers))
 
--- The schedule was played up to where `last` comes next, and its whole text up to there was written, and no more.
-pub record Written (told : Type 0) (chunks : Map) (last : Want) (p : Player) (start : Nodes) (held held' : Option (List ℕ)) : Type 0 where
+-- The schedule was played up to where `last` comes next, and its whole text up to there was
+-- written, and no more.
+pub record Written (told : Type 0) (chunks : Map) (last : Want) (p : Player) (start : Nodes)
+    (held held' : Option (List ℕ)) : Type 0 where
   pub items : List (Option Ran)
   pub text : List ℕ
   pub behind : Nodes
@@ -41,10 +43,12 @@ pub record Written (told : Type 0) (chunks : Map) (last : Want) (p : Player) (st
 -- the text of a turn, or of what stands in it before what comes next
 abbrev pub IsTurnText : Type 0 → Map → Player → Nodes → List ℕ → Type 0
 IsTurnText told chunks p nodes text =
-    (text ≡ (next_at chunks nodes p).0) ⊎ ((item : Option Ran) × (q : Player) × (behind : Nodes) × Turn told chunks (next_at chunks nodes p) nodes item text q behind)
+    (text ≡ (next_at chunks nodes p).0) ⊎ ((item : Option Ran) × (q : Player) × (behind : Nodes)
+    × Turn told chunks (next_at chunks nodes p) nodes item text q behind)
 
 -- of some turns the whole text was written, and of the next one a front of it
-pub record CutShort (told : Type 0) (chunks : Map) (p : Player) (start : Nodes) (held held' : Option (List ℕ)) : Type 0 where
+pub record CutShort (told : Type 0) (chunks : Map) (p : Player) (start : Nodes)
+    (held held' : Option (List ℕ)) : Type 0 where
   pub items : List (Option Ran)
   pub text : List ℕ
   pub player : Player
@@ -65,16 +69,19 @@ pub record Over (P : Schedule → Nodes → Type 0) (lines : List (List ℕ)) : 
   pub played : P schedule start
 
 abbrev pub Played : Type 0 → List (List ℕ) → Want → Option (List ℕ) → Option (List ℕ) → Type 0
-Played told lines last held held' = Over (λ s start. Written told s.conf.map last (player_of s) start held held') lines
+Played told lines last held held' =
+    Over (λ s start. Written told s.conf.map last (player_of s) start held held') lines
 
 abbrev pub PlayedInPart : Type 0 → List (List ℕ) → Option (List ℕ) → Option (List ℕ) → Type 0
-PlayedInPart told lines held held' = Over (λ s start. CutShort told s.conf.map (player_of s) start held held') lines
+PlayedInPart told lines held held' =
+    Over (λ s start. CutShort told s.conf.map (player_of s) start held held') lines
 
 -- the lines are refused for this reason, and nothing was written
 abbrev pub IsRefused : List (List ℕ) → Status → Option (List ℕ) → Option (List ℕ) → Type 0
 IsRefused lines why held held' = (schedule_of lines ≡ Err why) × (held' ≡ held)
 
--- a node didn't start at first, and nothing was written; or not again, and the text up to there was written
+-- a node didn't start at first, and nothing was written; or not again, and the text up to there was
+-- written
 abbrev pub IsUnstarted : Type 0 → List (List ℕ) → ℕ → Option (List ℕ) → Option (List ℕ) → Type 0
 IsUnstarted told lines place held held' =
     ((s : Schedule) × (schedule_of lines ≡ Ok s) × HasPlace s.conf place × (held' ≡ held))
@@ -83,7 +90,8 @@ IsUnstarted told lines place held held' =
 -- What each status says of the lines, and of what was written behind what the sink held before.
 abbrev pub Ended : Type 0 → List (List ℕ) → Option (List ℕ) → Option (List ℕ) → Status → Type 0
 Ended told lines held held' status.Ok = Played told lines End held held'
-Ended told lines held held' (status.BadLine line) = IsRefused lines (status.BadLine line) held held' ⊎ Played told lines (Bad line) held held'
+Ended told lines held held' (status.BadLine line) = IsRefused lines (status.BadLine line) held held'
+    ⊎ Played told lines (Bad line) held held'
 Ended told lines held held' status.Budget = Played told lines Spent held held'
 Ended told lines held held' status.BadConf = IsRefused lines status.BadConf held held'
 Ended told lines held held' (status.DiskFault disk) = IsUnstarted told lines disk held held'

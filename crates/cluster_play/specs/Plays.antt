@@ -1,5 +1,7 @@
--- What the run of a schedule is: what its lines ask, one after the other; and what is written of it.
-use Rattle.std.specs.Prelude.{◌≡◌, ◌≢◌, ◌≤◌, ℕ, List, [], ◌∷◌, ◌++◌, Option, Some, None, slice_get, slice_set}
+-- What the run of a schedule is: what its lines ask, one after the other; and what is written of
+-- it.
+use Rattle.std.specs.Prelude.{◌≡◌, ◌≢◌, ◌≤◌, ℕ, List, [], ◌∷◌, ◌++◌, Option, Some, None, slice_get}
+use Rattle.std.specs.Prelude.{slice_set}
 use Rattle.txn_types.specs.declared.event.NodeAnswer.{NodeAnswer}
 use Rattle.txn_types.specs.declared.event.NodeAnswer.TheVariants as answer
 use Rattle.txn_types.specs.declared.event.NodeEvent.{NodeEvent}
@@ -33,7 +35,8 @@ asked wall (want.Deliver number) = Some (Deliver number wall)
 asked wall other = None
 
 -- A node took what was asked. One that answers want of memory ends the playing, so that is none.
-pub record IsTaken (nodes : Nodes) (wall : ℕ) (w : Want) (node : NodeId) (e : NodeEvent) (a : NodeAnswer) : Type 0 where
+pub record IsTaken (nodes : Nodes) (wall : ℕ) (w : Want) (node : NodeId) (e : NodeEvent)
+    (a : NodeAnswer) : Type 0 where
   pub event : WorldEvent
   pub asks : asked wall w ≡ Some event
   pub comes : event_of nodes event ≡ Some (node, e)
@@ -46,13 +49,14 @@ IsWanted nodes wall w (Swapped node) = w ≡ want.Renew node
 
 -- The node isn't there, or the message that would be delivered. Then nothing happens.
 abbrev pub CannotBe : Nodes → ℕ → Want → Type 0
-CannotBe nodes wall (want.Event node happening) = MayHappen nodes (At node (record { wall = wall; what = happening })) → ⊥
+CannotBe nodes wall (want.Event node happening) =
+    MayHappen nodes (At node (record { wall = wall; what = happening })) → ⊥
 CannotBe nodes wall (want.Deliver number) = MayHappen nodes (Deliver number wall) → ⊥
 CannotBe nodes wall (want.Renew node) = HasNode nodes node → ⊥
 CannotBe nodes wall other = ⊥
 
--- A shard starts again from what its disk has. That is what a crash may leave, where disks tell what they hold (`told`) and
--- each field of its records fits its bytes.
+-- A shard starts again from what its disk has. That is what a crash may leave, where disks tell
+-- what they hold (`told`) and each field of its records fits its bytes.
 pub record StartsAgain (told : Type 0) (n : ℕ) (before after : NodeState) : Type 0 where
   pub recs : List Rec
   pub faults : ℕ
@@ -65,14 +69,19 @@ pub record ShardRestarts (told : Type 0) (old : Nodes) (n : ℕ) (new : Nodes) :
   pub after : NodeState
   pub there : slice_get old.shards n ≡ Some before
   pub again : StartsAgain told n before after
-  pub nodes : new ≡ record { shards = slice_set old.shards n after; routers = old.routers; sent = old.sent }
+  pub nodes : new
+      ≡ record { shards = slice_set old.shards n after; routers = old.routers; sent = old.sent }
 
 -- a router starts again, with the map of the configuration, at the boot behind those in its journal
 pub record RouterRestarts (chunks : Map) (old : Nodes) (n : ℕ) (new : Nodes) : Type 0 where
   pub before : RouterState
   pub boot : ℕ
   pub there : slice_get old.routers n ≡ Some before
-  pub nodes : new ≡ record { shards = old.shards; routers = slice_set old.routers n (fresh_router n boot chunks); sent = old.sent }
+  pub nodes : new ≡ record {
+    shards = old.shards;
+    routers = slice_set old.routers n (fresh_router n boot chunks);
+    sent = old.sent;
+  }
 
 -- what happened to the nodes
 abbrev pub Happened : Type 0 → Map → Nodes → Ran → Nodes → Type 0
@@ -94,11 +103,15 @@ abbrev pub player_behind : Player → Want → Ran → Player
 player_behind p w (Step node e a faults) = behind_answer p (given_of w) a
 player_behind p w (Swapped node) = p
 
--- What is done of what is wanted, where the player is this one: an item of the run, or none where it can't be.
-abbrev pub Does : Type 0 → Map → Player → Want → Nodes → Option Ran → List ℕ → Player → Nodes → Type 0
-Does told chunks p w nodes None text q behind = CannotBe nodes p.wall w × (text ≡ []) × (q ≡ p) × (behind ≡ nodes)
+-- What is done of what is wanted, where the player is this one: an item of the run, or none where
+-- it can't be.
+abbrev pub Does : Type 0 → Map → Player → Want → Nodes → Option Ran → List ℕ → Player
+    → Nodes → Type 0
+Does told chunks p w nodes None text q behind = CannotBe nodes p.wall w × (text ≡ []) × (q ≡ p)
+    × (behind ≡ nodes)
 Does told chunks p w nodes (Some ran) text q behind =
-    IsWanted nodes p.wall w ran × Happened told chunks nodes ran behind × (text ≡ text_behind p w ran behind) × (q ≡ player_behind p w ran)
+    IsWanted nodes p.wall w ran × Happened told chunks nodes ran behind
+    × (text ≡ text_behind p w ran behind) × (q ≡ player_behind p w ran)
 
 -- the list of commits as it is written at these nodes
 abbrev pub dump_at : Map → Nodes → List ℕ
@@ -110,18 +123,24 @@ next_at chunks nodes p = next (dump_at chunks nodes) p
 
 -- a turn: what is written before what comes next, and then of it
 abbrev pub Turn : Type 0 → Map → Next → Nodes → Option Ran → List ℕ → Player → Nodes → Type 0
-Turn told chunks n nodes item text q behind = (more : List ℕ) × (text ≡ n.0 ++ more) × Does told chunks n.2 n.1 nodes item more q behind
+Turn told chunks n nodes item text q behind = (more : List ℕ) × (text ≡ n.0 ++ more)
+    × Does told chunks n.2 n.1 nodes item more q behind
 
--- so many turns, one after the other: their items, the text of them all, and the player and the nodes behind them
-abbrev pub PlaysTo : Type 0 → Map → Player → Nodes → List (Option Ran) → List ℕ → Player → Nodes → Type 0
+-- so many turns, one after the other: their items, the text of them all, and the player and the
+-- nodes behind them
+abbrev pub PlaysTo : Type 0 → Map → Player → Nodes → List (Option Ran) → List ℕ → Player
+    → Nodes → Type 0
 PlaysTo told chunks p nodes [] text q behind = (text ≡ []) × (q ≡ p) × (behind ≡ nodes)
 PlaysTo told chunks p nodes (item ∷ items) text q behind =
-    (first rest : List ℕ) × (mid : Player) × (between : Nodes) × Turn told chunks (next_at chunks nodes p) nodes item first mid between
+    (first rest : List ℕ) × (mid : Player) × (between : Nodes)
+    × Turn told chunks (next_at chunks nodes p) nodes item first mid between
     × (text ≡ first ++ rest) × PlaysTo told chunks mid between items rest q behind
 
--- The items are what the schedule asks up to where `last` comes next; this is the whole text up to there, with what stands
--- in front of `last`: at the end of the schedule that is the list of commits.
-pub record Plays (told : Type 0) (chunks : Map) (last : Want) (p : Player) (nodes : Nodes) (items : List (Option Ran)) (text : List ℕ) (behind : Nodes) : Type 0 where
+-- The items are what the schedule asks up to where `last` comes next; this is the whole text up to
+-- there, with what stands in front of `last`: at the end of the schedule that is the list of
+-- commits.
+pub record Plays (told : Type 0) (chunks : Map) (last : Want) (p : Player) (nodes : Nodes)
+    (items : List (Option Ran)) (text : List ℕ) (behind : Nodes) : Type 0 where
   pub front : List ℕ
   pub player : Player
   pub turns : PlaysTo told chunks p nodes items front player behind

@@ -1,5 +1,7 @@
 -- A schedule as it is read: the configuration in front of it, and the lines behind that.
-use Rattle.std.specs.Prelude.{ℕ, ◌+◌, Bool, true, false, List, [], ◌∷◌, ◌++◌, codes, flat_map, length, Option, Some, None, option_map, Result, Ok, Err, if◌then◌else◌}
+use Rattle.std.specs.Prelude.{ℕ, ◌+◌, Bool, true, false, List, [], ◌∷◌, ◌++◌, codes, flat_map}
+use Rattle.std.specs.Prelude.{length, Option, Some, None, option_map, Result, Ok, Err}
+use Rattle.std.specs.Prelude.{if◌then◌else◌}
 use Rattle.std.specs.Str.{bytes_eq, is_utf8}
 use Rattle.outcomes.specs.Outcome as outcome
 use Rattle.cluster_conf.specs.Conf.{Settings, conf_of, plain}
@@ -10,8 +12,8 @@ use Rattle.play_steps.specs.Player.{Player, first_player}
 use Rattle.cluster_play.specs.declared.status.Status.{Status}
 use Rattle.cluster_play.specs.declared.status.Status.TheVariants as status
 
--- The bytes whose lines are played: all of the input; or the lines in front of one that is too long to be a line, or the
--- first 10,000,000 of more, and an empty line in place of the rest.
+-- The bytes whose lines are played: all of the input; or the lines in front of one that is too long
+-- to be a line, or the first 10,000,000 of more, and an empty line in place of the rest.
 abbrev pub bytes_played : List ℕ → End → List ℕ
 bytes_played bytes Whole = bytes
 bytes_played bytes LongLine = bytes ++ 10 ∷ []
@@ -39,7 +41,8 @@ marker = codes "+++"
 -- the lines in front of the next marker, and those behind it
 abbrev pub up_to_marker : List (List ℕ) → Option (List (List ℕ) × List (List ℕ))
 up_to_marker [] = None
-up_to_marker (l ∷ lines) = if bytes_eq l marker then Some ([], lines) else option_map (λ parts. (l ∷ parts.0, parts.1)) (up_to_marker lines)
+up_to_marker (l ∷ lines) = if bytes_eq l marker then Some ([], lines)
+    else option_map (λ parts. (l ∷ parts.0, parts.1)) (up_to_marker lines)
 
 -- the text between two markers, how many lines it has with both, and the lines behind that
 pub record MarkedLines : Type 0 where
@@ -74,11 +77,12 @@ enclosed (Some m) = behind_conf m.taken m.lines (settings_in m.text)
 abbrev pub unmarked : List (List ℕ) → Schedule
 unmarked lines = record { conf = plain; taken = 0; lines = lines }
 
--- The schedule that lines are, or why they are none: where the first is a marker, those up to the next one are the
--- configuration, in TOML 1.0.
+-- The schedule that lines are, or why they are none: where the first is a marker, those up to the
+-- next one are the configuration, in TOML 1.0.
 abbrev pub schedule_of : List (List ℕ) → Result Schedule Status
 schedule_of [] = Ok (unmarked [])
-schedule_of (l ∷ lines) = if bytes_eq l marker then enclosed (option_map marked_by (up_to_marker lines)) else Ok (unmarked (l ∷ lines))
+schedule_of (l ∷ lines) = if bytes_eq l marker
+    then enclosed (option_map marked_by (up_to_marker lines)) else Ok (unmarked (l ∷ lines))
 
 -- the player before the first line behind the configuration
 abbrev pub player_of : Schedule → Player

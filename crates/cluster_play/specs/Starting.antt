@@ -22,7 +22,8 @@ abbrev pub IsBooted : Map → ℕ → RouterState → Type 0
 IsBooted chunks n r = (boot : ℕ) × (r ≡ fresh_router n boot chunks)
 
 abbrev pub AllBooted : Map → List RouterState → Type 0
-AllBooted chunks routers = (n : ℕ) (r : RouterState) → slice_get routers n ≡ Some r → IsBooted chunks n r
+AllBooted chunks routers = (n : ℕ) (r : RouterState) → slice_get routers n ≡ Some r
+    → IsBooted chunks n r
 
 -- the states of nodes, and their disks
 

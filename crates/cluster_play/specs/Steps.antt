@@ -1,5 +1,6 @@
 -- What stands between the parts of the code: steps, stops, and the nodes that a stop leaves.
-use Rattle.std.specs.Prelude.{◌≡◌, ◌≢◌, ◌≤◌, ◌⊎◌, ℕ, ◌+◌, List, [], length, Option, Some, None, Result, Ok, Err}
+use Rattle.std.specs.Prelude.{◌≡◌, ◌≢◌, ◌≤◌, ◌⊎◌, ℕ, ◌+◌, List, [], length, Option, Some, None}
+use Rattle.std.specs.Prelude.{Result, Ok, Err}
 use Rattle.outcomes.specs.Causes.{Rose}
 use Rattle.outside_core.specs.Bytes.{Went, WentInPart}
 use Rattle.chunk_map.specs.Map.{Map}
@@ -34,10 +35,14 @@ use Rattle.cluster_play.specs.Starting.{shard_states, router_states, IsLone}
 use Rattle.cluster_play.specs.Ended.{place_of, HasPlace, Written, IsTurnText, CutShort}
 
 -- an event came to its node, which took it; or it couldn't come
-abbrev pub Comes : Player → Given → WorldEvent → Nodes → Option Ran → List ℕ → Player → Nodes → Type 0
-Comes p given event nodes None text q behind = (MayHappen nodes event → ⊥) × (text ≡ []) × (q ≡ p) × (behind ≡ nodes)
+abbrev pub Comes : Player → Given → WorldEvent → Nodes → Option Ran → List ℕ → Player
+    → Nodes → Type 0
+Comes p given event nodes None text q behind = (MayHappen nodes event → ⊥) × (text ≡ []) × (q ≡ p)
+    × (behind ≡ nodes)
 Comes p given event nodes (Some (Step node e a faults)) text q behind =
-    (event_of nodes event ≡ Some (node, e)) × (a ≢ answer.Memory) × Happens nodes (Step node e a faults) behind × (text ≡ answer_text p given a) × (q ≡ behind_answer p given a)
+    (event_of nodes event ≡ Some (node, e)) × (a ≢ answer.Memory)
+    × Happens nodes (Step node e a faults) behind × (text ≡ answer_text p given a)
+    × (q ≡ behind_answer p given a)
 Comes p given event nodes (Some (Swapped node)) text q behind = ⊥
 
 -- the status that ends the playing where this comes next
@@ -49,8 +54,10 @@ status_at other = None
 
 -- as many nodes as before, but for one
 abbrev pub AreAllBut : NodeId → Nodes → Nodes → Type 0
-AreAllBut (Shard n) old new = (length new.shards + 1 ≡ length old.shards) × (length new.routers ≡ length old.routers)
-AreAllBut (Router n) old new = (length new.shards ≡ length old.shards) × (length new.routers + 1 ≡ length old.routers)
+AreAllBut (Shard n) old new = (length new.shards + 1 ≡ length old.shards)
+    × (length new.routers ≡ length old.routers)
+AreAllBut (Router n) old new = (length new.shards ≡ length old.shards)
+    × (length new.routers + 1 ≡ length old.routers)
 
 -- Stops.
 
@@ -75,14 +82,16 @@ StopsFor w (stop.Cut cut) = cut ≡ cuts.Memory
 StopsFor w (stop.Lone node error disk) = w ≡ want.Renew node
 
 -- what is wanted was done, and its text written
-pub record Acts (told : Type 0) (chunks : Map) (p : Player) (w : Want) (nodes : Nodes) (held held' : Option (List ℕ)) (q : Player) (behind : Nodes) : Type 0 where
+pub record Acts (told : Type 0) (chunks : Map) (p : Player) (w : Want) (nodes : Nodes)
+    (held held' : Option (List ℕ)) (q : Player) (behind : Nodes) : Type 0 where
   pub item : Option Ran
   pub text : List ℕ
   pub does : Does told chunks p w nodes item text q behind
   pub went : Went held held' text
 
 -- it was done, and a front of its text was written
-pub record ActsInPart (told : Type 0) (chunks : Map) (p : Player) (w : Want) (nodes : Nodes) (held held' : Option (List ℕ)) : Type 0 where
+pub record ActsInPart (told : Type 0) (chunks : Map) (p : Player) (w : Want) (nodes : Nodes)
+    (held held' : Option (List ℕ)) : Type 0 where
   pub item : Option Ran
   pub text : List ℕ
   pub q : Player
@@ -90,31 +99,42 @@ pub record ActsInPart (told : Type 0) (chunks : Map) (p : Player) (w : Want) (no
   pub does : Does told chunks p w nodes item text q behind
   pub part : WentInPart held held' text
 
-abbrev pub ActStops : {D : Type 0} → Type 0 → Map → Player → Want → Nodes → Option (List ℕ) → Option (List ℕ) → Stop D → Type 0
-ActStops told chunks p w nodes held held' (stop.Cut cut) = (held' ≡ held) ⊎ ActsInPart told chunks p w nodes held held'
-ActStops told chunks p w nodes held held' (stop.Lone node error disk) = (w ≡ want.Renew node) × (held' ≡ held)
+abbrev pub ActStops : {D : Type 0} → Type 0 → Map → Player → Want → Nodes → Option (List ℕ)
+    → Option (List ℕ) → Stop D → Type 0
+ActStops told chunks p w nodes held held' (stop.Cut cut) = (held' ≡ held)
+    ⊎ ActsInPart told chunks p w nodes held held'
+ActStops told chunks p w nodes held held' (stop.Lone node error disk) = (w ≡ want.Renew node)
+    × (held' ≡ held)
 
 -- a turn was made, or what comes next ends the playing; its text was written
-abbrev pub TurnedTo : Type 0 → Map → Player → Nodes → Option (List ℕ) → Option (List ℕ) → Player → Nodes → Option Status → Type 0
+abbrev pub TurnedTo : Type 0 → Map → Player → Nodes → Option (List ℕ) → Option (List ℕ) → Player
+    → Nodes → Option Status → Type 0
 TurnedTo told chunks p nodes held held' q behind None =
-    (item : Option Ran) × (text : List ℕ) × Turn told chunks (next_at chunks nodes p) nodes item text q behind × Went held held' text
+    (item : Option Ran) × (text : List ℕ)
+    × Turn told chunks (next_at chunks nodes p) nodes item text q behind × Went held held' text
 TurnedTo told chunks p nodes held held' q behind (Some status) =
-    (status_at (next_at chunks nodes p).1 ≡ Some status) × Went held held' (next_at chunks nodes p).0
+    (status_at (next_at chunks nodes p).1 ≡ Some status)
+    × Went held held' (next_at chunks nodes p).0
 
-abbrev pub TurnStops : {D : Type 0} → Type 0 → Map → Player → Nodes → Option (List ℕ) → Option (List ℕ) → Stop D → Type 0
-TurnStops told chunks p nodes held held' (stop.Cut cut) = (text : List ℕ) × IsTurnText told chunks p nodes text × WentInPart held held' text
+abbrev pub TurnStops : {D : Type 0} → Type 0 → Map → Player → Nodes → Option (List ℕ)
+    → Option (List ℕ) → Stop D → Type 0
+TurnStops told chunks p nodes held held' (stop.Cut cut) = (text : List ℕ)
+    × IsTurnText told chunks p nodes text × WentInPart held held' text
 TurnStops told chunks p nodes held held' (stop.Lone node error disk) =
     ((next_at chunks nodes p).1 ≡ want.Renew node) × Went held held' (next_at chunks nodes p).0
 
 -- the playing came to where this status ends it
-pub record PlaysUpTo (told : Type 0) (chunks : Map) (p : Player) (nodes : Nodes) (held held' : Option (List ℕ)) (status : Status) : Type 0 where
+pub record PlaysUpTo (told : Type 0) (chunks : Map) (p : Player) (nodes : Nodes)
+    (held held' : Option (List ℕ)) (status : Status) : Type 0 where
   pub last : Want
   pub ends : status_at last ≡ Some status
   pub written : Written told chunks last p nodes held held'
 
-abbrev pub PlayStops : {D : Type 0} → Type 0 → Map → Player → Nodes → Option (List ℕ) → Option (List ℕ) → Stop D → Type 0
+abbrev pub PlayStops : {D : Type 0} → Type 0 → Map → Player → Nodes → Option (List ℕ)
+    → Option (List ℕ) → Stop D → Type 0
 PlayStops told chunks p nodes held held' (stop.Cut cut) = CutShort told chunks p nodes held held'
-PlayStops told chunks p nodes held held' (stop.Lone node error disk) = Written told chunks (want.Renew node) p nodes held held'
+PlayStops told chunks p nodes held held' (stop.Lone node error disk) =
+    Written told chunks (want.Renew node) p nodes held held'
 
 -- Statuses.
 
@@ -133,13 +153,18 @@ status_behind (Err (stop.Cut cut)) = status_cut cut
 status_behind (Err (stop.Lone node error disk)) = status_of error (place_of node)
 
 -- how a playing over nodes that have started ended
-abbrev pub EndedOver : Type 0 → Map → Player → Nodes → Option (List ℕ) → Option (List ℕ) → Status → Type 0
+abbrev pub EndedOver : Type 0 → Map → Player → Nodes → Option (List ℕ) → Option (List ℕ)
+    → Status → Type 0
 EndedOver told chunks p start held held' status.Ok = Written told chunks want.End p start held held'
-EndedOver told chunks p start held held' (status.BadLine line) = Written told chunks (want.Bad line) p start held held'
-EndedOver told chunks p start held held' status.Budget = Written told chunks want.Spent p start held held'
+EndedOver told chunks p start held held' (status.BadLine line) =
+    Written told chunks (want.Bad line) p start held held'
+EndedOver told chunks p start held held' status.Budget =
+    Written told chunks want.Spent p start held held'
 EndedOver told chunks p start held held' status.BadConf = ⊥
-EndedOver told chunks p start held held' (status.DiskFault disk) = (node : NodeId) × (disk ≡ place_of node) × Written told chunks (want.Renew node) p start held held'
-EndedOver told chunks p start held held' (status.BadJournal disk index) = (node : NodeId) × (disk ≡ place_of node) × Written told chunks (want.Renew node) p start held held'
+EndedOver told chunks p start held held' (status.DiskFault disk) = (node : NodeId)
+    × (disk ≡ place_of node) × Written told chunks (want.Renew node) p start held held'
+EndedOver told chunks p start held held' (status.BadJournal disk index) = (node : NodeId)
+    × (disk ≡ place_of node) × Written told chunks (want.Renew node) p start held held'
 EndedOver told chunks p start held held' status.WriteFault = CutShort told chunks p start held held'
 EndedOver told chunks p start held held' status.Memory = CutShort told chunks p start held held'
 EndedOver told chunks p start held held' status.ReadFault = ⊥
@@ -161,11 +186,14 @@ IsFrontErr other = ⊥
 -- Nodes and their disks.
 
 -- the nodes, before anything was sent
-abbrev pub nodes_of : {D : Type 0} → List (ShardOn (DiskRecords D)) → List (RouterOn (DiskRecords D)) → Nodes
-nodes_of shards routers = record { shards = shard_states shards; routers = router_states routers; sent = [] }
+abbrev pub nodes_of : {D : Type 0} → List (ShardOn (DiskRecords D))
+    → List (RouterOn (DiskRecords D)) → Nodes
+nodes_of shards routers =
+    record { shards = shard_states shards; routers = router_states routers; sent = [] }
 
 -- with the disk of a node that didn't start again, where there is one, all disks are there
 abbrev pub HasAll : {D : Type 0} → Result Status (Stop D) → ℕ → ℕ → ℕ → Type 0
 HasAll (Ok status) disks shards routers = (disks + shards + routers ≡ 24) × (routers ≤ 8)
 HasAll (Err (stop.Cut cut)) disks shards routers = (disks + shards + routers ≡ 24) × (routers ≤ 8)
-HasAll (Err (stop.Lone node error disk)) disks shards routers = (disks + shards + routers + 1 ≡ 24) × IsLone node routers
+HasAll (Err (stop.Lone node error disk)) disks shards routers = (disks + shards + routers + 1 ≡ 24)
+    × IsLone node routers

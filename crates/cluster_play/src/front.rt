@@ -49,7 +49,8 @@ impl<'a> Model for MarkedText<'a> {
 
 /// What stands in front of the next marker.
 fn enclosed(alloc: Global, lines: &[u8]) -> Result<Option<MarkedText>, AllocError>
-    ensures { IfOk result (λ found. found ≡ option_map marked_by (up_to_marker (lines_of lines.now))) }
+    ensures { IfOk result
+        (λ found. found ≡ option_map marked_by (up_to_marker (lines_of lines.now))) }
 {
     let mut text = Vec::new(alloc);
     let mut taken: u64 = 1;
@@ -100,7 +101,8 @@ fn unmarked(alloc: Global, lines: &[u8]) -> Result<Front, Status>
 
 /// The configuration up to the next marker, and the lines behind it.
 fn marked(alloc: Global, lines: &[u8]) -> Result<Front, Status>
-    ensures front { Gives (λ f. f) result (enclosed (option_map marked_by (up_to_marker (lines_of lines.now)))) }
+    ensures front { Gives (λ f. f) result
+        (enclosed (option_map marked_by (up_to_marker (lines_of lines.now)))) }
     ensures errors { IfErr result IsFrontErr }
 {
     match enclosed(alloc, lines) {

@@ -1,5 +1,5 @@
-//! Schedules played over a whole cluster: its nodes start from the disks handed in, what each line asks is done, and what
-//! comes of it is written.
+//! Schedules played over a whole cluster: its nodes start from the disks handed in, what each line
+//! asks is done, and what comes of it is written.
 #![tactic(auto)]
 
 mod disks;

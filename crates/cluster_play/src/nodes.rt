@@ -17,7 +17,8 @@ use router_store::RouterNode;
 use std::alloc::Global;
 use txn_types::NodeId;
 
-/// A journal's header has so many bytes; until old disks are served, a disk that a node is first started from has no more.
+/// A journal's header has so many bytes; until old disks are served, a disk that a node is first
+/// started from has no more.
 const HEADER: u64 = 17;
 
 /// All nodes of a cluster.
@@ -102,7 +103,8 @@ impl<D: Disk> Nodes<D> {
         ensures started { AllStarted (shard_states self.new.shards.items) }
         ensures more { OnOk result (vec_len self.new.shards ≡ vec_len self.old.shards + 1) }
         ensures same { OnErr result (vec_len self.new.shards ≡ vec_len self.old.shards) }
-        ensures all { vec_len disks.new + vec_len self.new.shards ≡ vec_len disks.old + vec_len self.old.shards }
+        ensures all { vec_len disks.new + vec_len self.new.shards
+            ≡ vec_len disks.old + vec_len self.old.shards }
         ensures capacity { vec_capacity self.new.shards ≡ vec_capacity self.old.shards }
         ensures room { vec_capacity disks.old ≤ vec_capacity disks.new }
         ensures routers { self.new.routers ≡ self.old.routers }
@@ -135,7 +137,8 @@ impl<D: Disk> Nodes<D> {
         ensures booted { AllBooted map.now (router_states self.new.routers.items) }
         ensures more { OnOk result (vec_len self.new.routers ≡ vec_len self.old.routers + 1) }
         ensures same { OnErr result (vec_len self.new.routers ≡ vec_len self.old.routers) }
-        ensures all { vec_len disks.new + vec_len self.new.routers ≡ vec_len disks.old + vec_len self.old.routers }
+        ensures all { vec_len disks.new + vec_len self.new.routers
+            ≡ vec_len disks.old + vec_len self.old.routers }
         ensures capacity { vec_capacity self.new.routers ≡ vec_capacity self.old.routers }
         ensures room { vec_capacity disks.old ≤ vec_capacity disks.new }
         ensures shards { self.new.shards ≡ self.old.shards }
@@ -209,7 +212,8 @@ impl<D: Disk> Nodes<D> {
         requires no_shards { vec_len self.old.shards ≡ 0 }
         requires no_routers { vec_len self.old.routers ≡ 0 }
         requires disks { vec_len disks.old ≡ 24 }
-        ensures started { OnOk result (AreStarted conf.now (nodes_of self.new.shards.items self.new.routers.items)) }
+        ensures started { OnOk result
+            (AreStarted conf.now (nodes_of self.new.shards.items self.new.routers.items)) }
         ensures refused { IfErr result (IsStartErr conf.now) }
         ensures all { vec_len disks.new + vec_len self.new.shards + vec_len self.new.routers ≡ 24 }
         ensures few { vec_len self.new.routers ≤ 8 }
@@ -224,11 +228,14 @@ impl<D: Disk> Nodes<D> {
         self.start_routers(alloc, conf, disks)
     }
 
-    /// Starts all nodes of a configuration, each with its disk. At a refusal all disks stand at their places again.
+    /// Starts all nodes of a configuration, each with its disk. At a refusal all disks stand at
+    /// their places again.
     pub fn start(alloc: Global, conf: &Conf, disks: &mut Vec<D>) -> Result<Nodes<D>, Status>
         requires { vec_len disks.old ≡ 24 }
-        ensures started { IfOk result (λ n. AreStarted conf.now (nodes_of n.shards.items n.routers.items)) }
-        ensures left { IfOk result (λ n. vec_len disks.new + vec_len n.shards + vec_len n.routers ≡ 24) }
+        ensures started { IfOk result
+            (λ n. AreStarted conf.now (nodes_of n.shards.items n.routers.items)) }
+        ensures left { IfOk result
+            (λ n. vec_len disks.new + vec_len n.shards + vec_len n.routers ≡ 24) }
         ensures refused { IfErr result (IsStartErr conf.now) }
         ensures all { OnErr result (vec_len disks.new ≡ 24) }
         ensures room { vec_capacity disks.old ≤ vec_capacity disks.new }
@@ -251,7 +258,8 @@ impl<D: Disk> Nodes<D> {
         requires all { vec_len disks.old + vec_len self.shards + vec_len self.routers ≡ 24 }
         requires few { vec_len self.routers ≤ 8 }
         requires room { 24 ≤ vec_capacity disks.old }
-        ensures places { disks.new.items ≡ behind_shards (shard_disks self.shards.items ++ disks.old.items) (router_disks self.routers.items) }
+        ensures places { disks.new.items ≡ behind_shards (shard_disks self.shards.items
+            ++ disks.old.items) (router_disks self.routers.items) }
         ensures all { vec_len disks.new ≡ 24 }
         ensures room { vec_capacity disks.old ≤ vec_capacity disks.new }
     {
@@ -260,7 +268,8 @@ impl<D: Disk> Nodes<D> {
         put_routers(routers, disks);
     }
 
-    /// Puts all disks at their places again, where this node isn't among the others: its disk is handed in.
+    /// Puts all disks at their places again, where this node isn't among the others: its disk is
+    /// handed in.
     pub fn give_back_with(self, node: NodeId, disk: D, disks: &mut Vec<D>)
         requires all { vec_len disks.old + vec_len self.shards + vec_len self.routers + 1 ≡ 24 }
         requires lone { IsLone node (vec_len self.routers) }

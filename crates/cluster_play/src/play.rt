@@ -30,8 +30,10 @@ fn play_all<K: Sink, D: Disk>(
     out: &mut K,
 ) -> Result<Status, Stop<D>>
     requires { world.old.spent ≡ false }
-    ensures played { IfOk result (PlaysUpTo ((d : D) → IsTrue (D.tells d)) map.now player.old world.old.nodes (K.held out.old) (K.held out.new)) }
-    ensures stop { IfErr result (PlayStops ((d : D) → IsTrue (D.tells d)) map.now player.old world.old.nodes (K.held out.old) (K.held out.new)) }
+    ensures played { IfOk result (PlaysUpTo ((d : D) → IsTrue (D.tells d)) map.now player.old
+        world.old.nodes (K.held out.old) (K.held out.new)) }
+    ensures stop { IfErr result (PlayStops ((d : D) → IsTrue (D.tells d)) map.now player.old
+        world.old.nodes (K.held out.old) (K.held out.new)) }
     ensures nodes { Leaves result world.old.nodes world.new.nodes }
     ensures fault { IfErr result (RoseAt (K.fault_count out.old) (K.fault_count out.new)) }
 {
@@ -57,7 +59,8 @@ fn status_cut(cut: Cut) -> Status
 
 /// Puts all disks at their places again behind a playing, and tells how that ended.
 fn end<D: Disk>(played: Result<Status, Stop<D>>, nodes: Nodes<D>, disks: &mut Vec<D>) -> Status
-    requires all { HasAll played (vec_len disks.old) (vec_len nodes.shards) (vec_len nodes.routers) }
+    requires all { HasAll played (vec_len disks.old) (vec_len nodes.shards)
+        (vec_len nodes.routers) }
     requires room { 24 ≤ vec_capacity disks.old }
     ensures status { result ≡ status_behind played }
     ensures all { vec_len disks.new ≡ 24 }
@@ -91,8 +94,10 @@ fn play_over<K: Sink, D: Disk>(
     requires shards { vec_len nodes.shards ≤ 16 }
     requires routers { vec_len nodes.routers ≤ 8 }
     requires room { 24 ≤ vec_capacity disks.old }
-    ensures ended { EndedOver ((d : D) → IsTrue (D.tells d)) map.now player.old (nodes_of nodes.shards.items nodes.routers.items) (K.held out.old) (K.held out.new) result }
-    ensures fault { result ≡ Status.WriteFault → Rose (K.fault_count out.old) (K.fault_count out.new) }
+    ensures ended { EndedOver ((d : D) → IsTrue (D.tells d)) map.now player.old
+        (nodes_of nodes.shards.items nodes.routers.items) (K.held out.old) (K.held out.new) result }
+    ensures fault { result ≡ Status.WriteFault
+        → Rose (K.fault_count out.old) (K.fault_count out.new) }
     ensures all { vec_len disks.new ≡ 24 }
 {
     let Ok(before) = before_of(alloc, &nodes.shards) else {
@@ -114,8 +119,10 @@ fn play_front<K: Sink, D: Disk>(
     disks: &mut Vec<D>,
 ) -> Status
     requires { vec_len disks.old ≡ 24 }
-    ensures ended { (lines : List (List ℕ)) → schedule_of lines ≡ Ok front.now → Ended ((d : D) → IsTrue (D.tells d)) lines (K.held out.old) (K.held out.new) result }
-    ensures fault { result ≡ Status.WriteFault → Rose (K.fault_count out.old) (K.fault_count out.new) }
+    ensures ended { (lines : List (List ℕ)) → schedule_of lines ≡ Ok front.now
+        → Ended ((d : D) → IsTrue (D.tells d)) lines (K.held out.old) (K.held out.new) result }
+    ensures fault { result ≡ Status.WriteFault
+        → Rose (K.fault_count out.old) (K.fault_count out.new) }
     ensures all { vec_len disks.new ≡ 24 }
 {
     let conf = &front.conf;
@@ -142,8 +149,10 @@ fn play_lines<K: Sink, D: Disk>(
     disks: &mut Vec<D>,
 ) -> Status
     requires { vec_len disks.old ≡ 24 }
-    ensures ended { Ended ((d : D) → IsTrue (D.tells d)) (lines_of lines.now) (K.held out.old) (K.held out.new) result }
-    ensures fault { result ≡ Status.WriteFault → Rose (K.fault_count out.old) (K.fault_count out.new) }
+    ensures ended { Ended ((d : D) → IsTrue (D.tells d)) (lines_of lines.now) (K.held out.old)
+        (K.held out.new) result }
+    ensures fault { result ≡ Status.WriteFault
+        → Rose (K.fault_count out.old) (K.fault_count out.new) }
     ensures all { vec_len disks.new ≡ 24 }
 {
     match front_of(alloc, lines) {
@@ -167,8 +176,9 @@ fn bytes_played(input: Input) -> Option<Vec<u8>>
     }
 }
 
-/// Plays a schedule that was read, over the nodes that start from the disks, and writes what comes of it. Place `n` of the
-/// disks is shard `n`'s, place `16 + n` is router `n`'s; all are at their places again behind it.
+/// Plays a schedule that was read, over the nodes that start from the disks, and writes what comes
+/// of it. Place `n` of the disks is shard `n`'s, place `16 + n` is router `n`'s; all are at their
+/// places again behind it.
 pub fn play_input<K: Sink, D: Disk>(
     alloc: Global,
     input: Input,
@@ -176,11 +186,13 @@ pub fn play_input<K: Sink, D: Disk>(
     disks: &mut Vec<D>,
 ) -> Status
     requires { vec_len disks.old ≡ 24 }
-    // The status and what was written are those of the lines that were read. Of a restart more is said where disks tell what
-    // they hold.
-    ensures ended { Ended ((d : D) → IsTrue (D.tells d)) (lines_of (bytes_played input.bytes.items input.end)) (K.held out.old) (K.held out.new) result }
+    // The status and what was written are those of the lines that were read. Of a restart more is
+    // said where disks tell what they hold.
+    ensures ended { Ended ((d : D) → IsTrue (D.tells d)) (lines_of
+        (bytes_played input.bytes.items input.end)) (K.held out.old) (K.held out.new) result }
     // A fault is answered only where the sink's count rose in this call.
-    ensures fault { result ≡ Status.WriteFault → Rose (K.fault_count out.old) (K.fault_count out.new) }
+    ensures fault { result ≡ Status.WriteFault
+        → Rose (K.fault_count out.old) (K.fault_count out.new) }
     ensures all { vec_len disks.new ≡ 24 }
 {
     match bytes_played(input) {

@@ -58,7 +58,8 @@ fn router_again<D: Disk>(
 fn renew_shard<D: Disk>(alloc: Global, world: &mut DiskWorld<D>, shard: u16) -> Result<u32, Stop<D>>
     requires live { world.old.spent ≡ false }
     requires there { HasNode world.old.nodes (node_kinds.Shard shard) }
-    ensures restarts { OnOk result (ShardRestarts ((d : D) → IsTrue (D.tells d)) world.old.nodes shard world.new.nodes) }
+    ensures restarts { OnOk result
+        (ShardRestarts ((d : D) → IsTrue (D.tells d)) world.old.nodes shard world.new.nodes) }
     ensures boot { IfOk result (λ boot. boot ≡ boot_at world.new.nodes (node_kinds.Shard shard)) }
     ensures live { OnOk result (world.new.spent ≡ false) }
     ensures stop { IfErr result (StopsFor (Renew (node_kinds.Shard shard))) }
@@ -113,7 +114,8 @@ fn renew_node<D: Disk>(
 ) -> Result<u32, Stop<D>>
     requires live { world.old.spent ≡ false }
     requires there { HasNode world.old.nodes node }
-    ensures happened { OnOk result (Happened ((d : D) → IsTrue (D.tells d)) map.now world.old.nodes (Swapped node) world.new.nodes) }
+    ensures happened { OnOk result (Happened ((d : D) → IsTrue (D.tells d)) map.now world.old.nodes
+        (Swapped node) world.new.nodes) }
     ensures boot { IfOk result (λ boot. boot ≡ boot_at world.new.nodes node) }
     ensures live { OnOk result (world.new.spent ≡ false) }
     ensures stop { IfErr result (StopsFor (Renew node)) }
@@ -133,7 +135,8 @@ fn tell_boot(
     boot: u32,
     text: &mut Vec<u8>,
 ) -> Result<(), AllocError>
-    ensures { OnOk result (text.new.items ≡ text.old.items ++ where_logs player.now.logs (boot_line node boot)) }
+    ensures { OnOk result
+        (text.new.items ≡ text.old.items ++ where_logs player.now.logs (boot_line node boot)) }
 {
     if player.logs() {
         put_boot(alloc, text, node, boot)
@@ -152,8 +155,10 @@ pub fn renew<D: Disk>(
     text: &mut Vec<u8>,
 ) -> Result<(), Stop<D>>
     requires { world.old.spent ≡ false }
-    ensures done { OnOk result ((item : Option Ran) × (more : List ℕ) × (text.new.items ≡ text.old.items ++ more)
-        × Does ((d : D) → IsTrue (D.tells d)) map.now player.now (Renew node) world.old.nodes item more player.now world.new.nodes) }
+    ensures done { OnOk result
+        ((item : Option Ran) × (more : List ℕ) × (text.new.items ≡ text.old.items ++ more)
+        × Does ((d : D) → IsTrue (D.tells d)) map.now player.now (Renew node) world.old.nodes item
+        more player.now world.new.nodes) }
     ensures live { OnOk result (world.new.spent ≡ false) }
     ensures stop { IfErr result (StopsFor (Renew node)) }
     ensures nodes { Leaves result world.old.nodes world.new.nodes }

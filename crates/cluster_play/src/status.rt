@@ -15,7 +15,8 @@ pub enum Status {
     DiskFault { disk: u16 },
     /// A disk's bytes or records were refused at a start: the record's number, the first being 0.
     BadJournal { disk: u16, index: u64 },
-    /// One settling would deliver more than 1,000,000 messages, or the schedule has more than 10,000,000 lines.
+    /// One settling would deliver more than 1,000,000 messages, or the schedule has more than
+    /// 10,000,000 lines.
     Budget,
     /// The configuration is none.
     BadConf,

@@ -66,7 +66,8 @@ fn took(
     text: &mut Vec<u8>,
 ) -> Result<(), AllocError>
     ensures room { OnOk result (answer.now ≢ kinds.Memory) }
-    ensures text { OnOk result (text.new.items ≡ text.old.items ++ answer_text player.old given answer.now) }
+    ensures text { OnOk result
+        (text.new.items ≡ text.old.items ++ answer_text player.old given answer.now) }
     ensures player { OnOk result (player.new ≡ behind_answer player.old given answer.now) }
 {
     if matches!(answer, NodeAnswer::Memory) {
@@ -75,8 +76,8 @@ fn took(
     player.took(given, answer, text)
 }
 
-/// An event comes to its node: what is written of it is put behind `text`, and what follows. Where it can't come, nothing
-/// happens.
+/// An event comes to its node: what is written of it is put behind `text`, and what follows. Where
+/// it can't come, nothing happens.
 pub fn step<D: Disk>(
     player: &mut Player,
     world: &mut DiskWorld<D>,
@@ -85,7 +86,9 @@ pub fn step<D: Disk>(
     text: &mut Vec<u8>,
 ) -> Result<(), AllocError>
     requires { world.old.spent ≡ false }
-    ensures comes { OnOk result ((item : Option Ran) × (more : List ℕ) × (text.new.items ≡ text.old.items ++ more) × Comes player.old given event world.old.nodes item more player.new world.new.nodes) }
+    ensures comes { OnOk result
+        ((item : Option Ran) × (more : List ℕ) × (text.new.items ≡ text.old.items ++ more)
+        × Comes player.old given event world.old.nodes item more player.new world.new.nodes) }
     ensures live { OnOk result (world.new.spent ≡ false) }
     ensures nodes { AsMany world.old.nodes world.new.nodes }
 {

@@ -22,7 +22,8 @@ use txn_types::NodeEvent;
 fn write<K: Sink>(out: &mut K, bytes: &[u8]) -> Result<(), Cut>
     ensures whole { OnOk result (Went (K.held out.old) (K.held out.new) bytes.now) }
     ensures part { WentInPart (K.held out.old) (K.held out.new) bytes.now }
-    ensures faults { FailsOnly Cut.WriteFault (K.fault_count out.old) (K.fault_count out.new) result }
+    ensures faults { FailsOnly Cut.WriteFault (K.fault_count out.old)
+        (K.fault_count out.new) result }
 {
     match write_all(out, bytes) {
         Ok(()) => Ok(()),
@@ -40,10 +41,14 @@ fn next<K: Sink, D: Disk>(
     out: &mut K,
 ) -> Result<Want, Cut>
     requires { world.now.spent ≡ false }
-    ensures next { IfOk result (λ w. ((next_at map.now world.now.nodes player.old).1 ≡ w) × ((next_at map.now world.now.nodes player.old).2 ≡ player.new)) }
-    ensures whole { OnOk result (Went (K.held out.old) (K.held out.new) (next_at map.now world.now.nodes player.old).0) }
-    ensures part { WentInPart (K.held out.old) (K.held out.new) (next_at map.now world.now.nodes player.old).0 }
-    ensures faults { FailsOnly Cut.WriteFault (K.fault_count out.old) (K.fault_count out.new) result }
+    ensures next { IfOk result (λ w. ((next_at map.now world.now.nodes player.old).1 ≡ w)
+        × ((next_at map.now world.now.nodes player.old).2 ≡ player.new)) }
+    ensures whole { OnOk result
+        (Went (K.held out.old) (K.held out.new) (next_at map.now world.now.nodes player.old).0) }
+    ensures part { WentInPart (K.held out.old) (K.held out.new)
+        (next_at map.now world.now.nodes player.old).0 }
+    ensures faults { FailsOnly Cut.WriteFault (K.fault_count out.old)
+        (K.fault_count out.new) result }
 {
     let commits = world.commits();
     let mut text = Vec::new(alloc);
@@ -77,7 +82,8 @@ fn act_at<D: Disk>(
     text: &mut Vec<u8>,
 ) -> Result<(), Stop<D>>
     requires { world.old.spent ≡ false }
-    ensures comes { OnOk result ((item : Option Ran) × (more : List ℕ) × (text.new.items ≡ text.old.items ++ more)
+    ensures comes { OnOk result
+        ((item : Option Ran) × (more : List ℕ) × (text.new.items ≡ text.old.items ++ more)
         × Comes player.old given event world.old.nodes item more player.new world.new.nodes) }
     ensures live { OnOk result (world.new.spent ≡ false) }
     ensures stop { IfErr result (λ s. s ≡ Stop.Cut Cut.Memory) }
@@ -100,8 +106,10 @@ fn act<D: Disk>(
 ) -> Result<(), Stop<D>>
     requires live { world.old.spent ≡ false }
     requires goes_on { status_at want ≡ None }
-    ensures done { OnOk result ((item : Option Ran) × (more : List ℕ) × (text.new.items ≡ text.old.items ++ more)
-        × Does ((d : D) → IsTrue (D.tells d)) map.now player.old want world.old.nodes item more player.new world.new.nodes) }
+    ensures done { OnOk result
+        ((item : Option Ran) × (more : List ℕ) × (text.new.items ≡ text.old.items ++ more)
+        × Does ((d : D) → IsTrue (D.tells d)) map.now player.old want world.old.nodes item more
+        player.new world.new.nodes) }
     ensures live { OnOk result (world.new.spent ≡ false) }
     ensures stop { IfErr result (StopsFor want) }
     ensures nodes { Leaves result world.old.nodes world.new.nodes }
@@ -136,9 +144,11 @@ fn act_and_write<K: Sink, D: Disk>(
 ) -> Result<(), Stop<D>>
     requires live { world.old.spent ≡ false }
     requires goes_on { status_at want ≡ None }
-    ensures acts { OnOk result (Acts ((d : D) → IsTrue (D.tells d)) map.now player.old want world.old.nodes (K.held out.old) (K.held out.new) player.new world.new.nodes) }
+    ensures acts { OnOk result (Acts ((d : D) → IsTrue (D.tells d)) map.now player.old want
+        world.old.nodes (K.held out.old) (K.held out.new) player.new world.new.nodes) }
     ensures live { OnOk result (world.new.spent ≡ false) }
-    ensures stop { IfErr result (ActStops ((d : D) → IsTrue (D.tells d)) map.now player.old want world.old.nodes (K.held out.old) (K.held out.new)) }
+    ensures stop { IfErr result (ActStops ((d : D) → IsTrue (D.tells d)) map.now player.old want
+        world.old.nodes (K.held out.old) (K.held out.new)) }
     ensures nodes { Leaves result world.old.nodes world.new.nodes }
     ensures later { K.fault_count out.old ≤ K.fault_count out.new }
     ensures fault { IfErr result (RoseAt (K.fault_count out.old) (K.fault_count out.new)) }
@@ -151,7 +161,8 @@ fn act_and_write<K: Sink, D: Disk>(
     }
 }
 
-/// Does what comes next of a schedule, and writes its text; or tells the status that ends the playing there.
+/// Does what comes next of a schedule, and writes its text; or tells the status that ends the
+/// playing there.
 pub fn turn<K: Sink, D: Disk>(
     alloc: Global,
     player: &mut Player,
@@ -160,9 +171,11 @@ pub fn turn<K: Sink, D: Disk>(
     out: &mut K,
 ) -> Result<Option<Status>, Stop<D>>
     requires { world.old.spent ≡ false }
-    ensures turned { IfOk result (TurnedTo ((d : D) → IsTrue (D.tells d)) map.now player.old world.old.nodes (K.held out.old) (K.held out.new) player.new world.new.nodes) }
+    ensures turned { IfOk result (TurnedTo ((d : D) → IsTrue (D.tells d)) map.now player.old
+        world.old.nodes (K.held out.old) (K.held out.new) player.new world.new.nodes) }
     ensures live { OnOk result (world.new.spent ≡ false) }
-    ensures stop { IfErr result (TurnStops ((d : D) → IsTrue (D.tells d)) map.now player.old world.old.nodes (K.held out.old) (K.held out.new)) }
+    ensures stop { IfErr result (TurnStops ((d : D) → IsTrue (D.tells d)) map.now player.old
+        world.old.nodes (K.held out.old) (K.held out.new)) }
     ensures nodes { Leaves result world.old.nodes world.new.nodes }
     ensures later { K.fault_count out.old ≤ K.fault_count out.new }
     ensures fault { IfErr result (RoseAt (K.fault_count out.old) (K.fault_count out.new)) }

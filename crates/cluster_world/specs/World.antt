@@ -1,5 +1,7 @@
--- A cluster as its calls see it: its nodes and their messages, the list of commits, and what happened since it was made.
-use Rattle.std.specs.Prelude.{◌≡◌, ◌<◌, ◌≤◌, ◌++◌, ◌∷◌, ℕ, Bool, false, List, [], map, length, take, slice_get, slice_set, Option, Some, None, unwrap_or, Result, Ok, Err}
+-- A cluster as its calls see it: its nodes and their messages, the list of commits, and what
+-- happened since it was made.
+use Rattle.std.specs.Prelude.{◌≡◌, ◌<◌, ◌≤◌, ◌++◌, ◌∷◌, ℕ, Bool, false, List, [], map, length, take}
+use Rattle.std.specs.Prelude.{slice_get, slice_set, Option, Some, None, unwrap_or, Result, Ok, Err}
 use Rattle.txn_types.specs.declared.event.Happening.{Happening}
 use Rattle.txn_types.specs.declared.event.Happening.TheVariants as what
 use Rattle.txn_types.specs.declared.event.NodeAnswer.{NodeAnswer}
@@ -28,9 +30,15 @@ pub record WorldState : Type 0 where
   pub run : List Ran
   pub spent : Bool
 
-abbrev pub world_of : List NodeState → List RouterState → List Envelope → List Entry → List Ran → Bool → WorldState
+abbrev pub world_of : List NodeState → List RouterState → List Envelope → List Entry → List Ran
+    → Bool → WorldState
 world_of shards routers sent entries run spent =
-    record { nodes = record { shards = shards; routers = routers; sent = sent }; commits = entries; run = run; spent = spent }
+    record {
+      nodes = record { shards = shards; routers = routers; sent = sent };
+      commits = entries;
+      run = run;
+      spent = spent;
+    }
 
 -- the list of commits is that of the journals as they are, unless a call was refused
 abbrev pub IsListed : WorldState → Type 0
@@ -42,7 +50,8 @@ records_in state shards = map (λ n. n.records) (map state shards)
 
 -- the same, of one of them so many
 abbrev pub cut_in : {S : Type 0} → (S → NodeState) → List S → ℕ → ℕ → Journals
-cut_in state shards shard count = slice_set (records_in state shards) shard (take count (unwrap_or (slice_get (records_in state shards) shard) []))
+cut_in state shards shard count = slice_set (records_in state shards) shard (take count
+    (unwrap_or (slice_get (records_in state shards) shard) []))
 
 -- the node is there
 abbrev pub HasNode : Nodes → NodeId → Type 0
@@ -79,29 +88,38 @@ pub record AsMany (old new : Nodes) : Type 0 where
   pub routers : length new.routers ≡ length old.routers
 
 -- the same behind a replacement, unless no new node was made
-abbrev pub AsManyUnlessNext : {E : Type 0} → Nodes → Result (Unit {0}) (error.the_data E) → Nodes → Type 0
+abbrev pub AsManyUnlessNext : {E : Type 0} → Nodes → Result (Unit {0}) (error.the_data E)
+    → Nodes → Type 0
 AsManyUnlessNext old (Ok u) new = AsMany old new
 AsManyUnlessNext old (Err error.Memory) new = AsMany old new
 AsManyUnlessNext old (Err (error.Next e)) new = Unit {0}
 
--- a shard took an event, and the list of commits has come to its records; its messages aren't sent yet
-pub record TakesAt (shard : ℕ) (old : WorldState) (e : NodeEvent) (a : NodeAnswer) (faults : ℕ) (new : WorldState) : Type 0 where
+-- a shard took an event, and the list of commits has come to its records; its messages aren't sent
+-- yet
+pub record TakesAt (shard : ℕ) (old : WorldState) (e : NodeEvent) (a : NodeAnswer) (faults : ℕ)
+    (new : WorldState) : Type 0 where
   pub before : NodeState
   pub after : NodeState
   pub there : slice_get old.nodes.shards shard ≡ Some before
   pub takes : ShardTakes before e a after
   pub count : faults ≡ after.faults
-  pub is : new ≡ record old { nodes = record old.nodes { shards = slice_set old.nodes.shards shard after }; commits = new.commits }
+  pub is : new ≡ record old {
+    nodes = record old.nodes { shards = slice_set old.nodes.shards shard after };
+    commits = new.commits;
+  }
   pub listed : new.commits ≡ commits_of new.nodes
 
 -- a node took an event: it happened, and was written down
-pub record Took (old : WorldState) (node : NodeId) (e : NodeEvent) (a : NodeAnswer) (new : WorldState) : Type 0 where
+pub record Took (old : WorldState) (node : NodeId) (e : NodeEvent) (a : NodeAnswer)
+    (new : WorldState) : Type 0 where
   pub faults : ℕ
   pub happens : Happens old.nodes (Step node e a faults) new.nodes
   pub run : new.run ≡ old.run ++ Step node e a faults ∷ []
 
--- a step: the event came to its node, which took it; the answer tells of it, and how many messages were sent before
-pub record Stepped (old : WorldState) (event : WorldEvent) (answer : WorldAnswer) (new : WorldState) : Type 0 where
+-- a step: the event came to its node, which took it; the answer tells of it, and how many messages
+-- were sent before
+pub record Stepped (old : WorldState) (event : WorldEvent) (answer : WorldAnswer)
+    (new : WorldState) : Type 0 where
   pub taken : NodeEvent
   pub comes : event_of old.nodes event ≡ Some (answer.node, taken)
   pub took : Took old answer.node taken answer.answer new

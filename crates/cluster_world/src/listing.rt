@@ -42,9 +42,12 @@ fn add_record<'a>(
 ) -> Result<(), AllocError>
     requires there { shard < length journals.old }
     requires within { place < length records.now }
-    requires list { list.old.items ≡ commits (slice_set (map (λ j. j.now) journals.old) shard (take place records.now)) }
-    ensures journals { map (λ j. j.now) journals.new ≡ slice_set (map (λ j. j.now) journals.old) shard (take (place + 1) records.now) }
-    ensures list { OnOk result (list.new.items ≡ commits (slice_set (map (λ j. j.now) journals.old) shard (take (place + 1) records.now))) }
+    requires list { list.old.items
+        ≡ commits (slice_set (map (λ j. j.now) journals.old) shard (take place records.now)) }
+    ensures journals { map (λ j. j.now) journals.new
+        ≡ slice_set (map (λ j. j.now) journals.old) shard (take (place + 1) records.now) }
+    ensures list { OnOk result (list.new.items ≡ commits
+        (slice_set (map (λ j. j.now) journals.old) shard (take (place + 1) records.now))) }
 {
     journals[usize::from(shard)] = &records[..place + 1];
     add(
@@ -69,8 +72,10 @@ fn add_records<'a>(
 ) -> Result<(), AllocError>
     requires there { shard < length journals.old }
     requires within { from ≤ length records.now }
-    requires list { list.old.items ≡ commits (slice_set (map (λ j. j.now) journals.old) shard (take from records.now)) }
-    ensures { OnOk result (list.new.items ≡ commits (slice_set (map (λ j. j.now) journals.old) shard records.now)) }
+    requires list { list.old.items
+        ≡ commits (slice_set (map (λ j. j.now) journals.old) shard (take from records.now)) }
+    ensures { OnOk result
+        (list.new.items ≡ commits (slice_set (map (λ j. j.now) journals.old) shard records.now)) }
 {
     for place in from..records.len() {
         add_record(alloc, journals, shard, records, place, list)?;

@@ -8,10 +8,13 @@ pub fn swap_in<T, E, F: FnOnce(T) -> Result<T, E>>(
     next: F,
 ) -> Result<(), E>
     requires within { place < length list.old.items }
-    requires next { (before : T) → slice_get list.old.items place ≡ Some before → F.pre next before }
-    ensures ok { OnOk result ((before : T) × (after : T) × (slice_get list.old.items place ≡ Some before) × F.post next before (Ok after)
+    requires next { (before : T) → slice_get list.old.items place ≡ Some before
+        → F.pre next before }
+    ensures ok { OnOk result ((before : T) × (after : T)
+        × (slice_get list.old.items place ≡ Some before) × F.post next before (Ok after)
         × (list.new.items ≡ slice_set list.old.items place after)) }
-    ensures err { IfErr result (λ e. (before : T) × (slice_get list.old.items place ≡ Some before) × F.post next before (Err e)
+    ensures err { IfErr result (λ e. (before : T) × (slice_get list.old.items place ≡ Some before)
+        × F.post next before (Err e)
         × (list.new.items ≡ remove list.old.items place)) }
 {
     match next(list.remove(place)) {

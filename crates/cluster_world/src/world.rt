@@ -55,7 +55,8 @@ impl<S: Journalled, R: Routing> World<S, R> {
     /// These nodes, as their starts left them; `before` is the list of commits of their records.
     pub fn new(alloc: Global, shards: Vec<S>, routers: Vec<R>, before: Vec<Entry>) -> World<S, R>
         requires { before.items ≡ commits (records_in S.state shards.items) }
-        ensures { result ≡ world_of (map S.state shards.items) (map R.state routers.items) [] before.items [] false }
+        ensures { result ≡ world_of (map S.state shards.items) (map R.state routers.items) []
+            before.items [] false }
     {
         World {
             alloc,
@@ -123,7 +124,8 @@ impl<S: Journalled, R: Routing> World<S, R> {
     fn event_of(&self, event: WorldEvent) -> Result<(NodeId, NodeEvent), AllocError>
         requires { MayHappen self.now.nodes event }
         ensures comes { IfOk result (λ x. event_of self.now.nodes event ≡ Some (x.0, x.1)) }
-        ensures may { IfOk result (λ x. HasNode self.now.nodes x.0 × MayCome self.now.nodes.sent x.0 x.1.what) }
+        ensures may { IfOk result
+            (λ x. HasNode self.now.nodes x.0 × MayCome self.now.nodes.sent x.0 x.1.what) }
     {
         match event {
             WorldEvent::At { node, event } => Ok((node, event)),
@@ -266,16 +268,25 @@ impl<S: Journalled, R: Routing> World<S, R> {
     ) -> Result<(), SwapErr<E>>
         requires live { self.old.spent ≡ false }
         requires there { shard < length self.old.nodes.shards }
-        requires next { (before : S) → slice_get self.old.nodes.shards shard ≡ Some (S.state before) → F.pre next before }
-        ensures swapped { OnOk result ((before : S) × (after : S) × (slice_get self.old.nodes.shards shard ≡ Some (S.state before)) × F.post next before (Ok after)
-            × (self.new.nodes ≡ record self.old.nodes { shards = slice_set self.old.nodes.shards shard (S.state after) })) }
-        ensures run { OnOk result (self.new.run ≡ self.old.run ++ ran.Swapped (node.Shard shard) ∷ []) }
-        ensures happens { ((before after : S) → slice_get self.old.nodes.shards shard ≡ Some (S.state before) → F.post next before (Ok after) → ShardRenews shard (S.state before) (S.state after))
+        requires next { (before : S) → slice_get self.old.nodes.shards shard ≡ Some (S.state before)
+            → F.pre next before }
+        ensures swapped { OnOk result ((before : S) × (after : S) × (slice_get self.old.nodes.shards
+            shard ≡ Some (S.state before)) × F.post next before (Ok after)
+            × (self.new.nodes ≡ record self.old.nodes
+            { shards = slice_set self.old.nodes.shards shard (S.state after) })) }
+        ensures run { OnOk result
+            (self.new.run ≡ self.old.run ++ ran.Swapped (node.Shard shard) ∷ []) }
+        ensures happens { ((before after : S)
+            → slice_get self.old.nodes.shards shard ≡ Some (S.state before)
+            → F.post next before (Ok after) → ShardRenews shard (S.state before) (S.state after))
             → OnOk result (Happens self.old.nodes (ran.Swapped (node.Shard shard)) self.new.nodes) }
         ensures live { OnOk result (self.new.spent ≡ false) }
         ensures count { AsManyUnlessNext self.old.nodes result self.new.nodes }
-        ensures refused { (e : E) → result ≡ Err (error.Next e) → (before : S) × (slice_get self.old.nodes.shards shard ≡ Some (S.state before)) × F.post next before (Err e)
-            × (self.new.nodes ≡ record self.old.nodes { shards = remove self.old.nodes.shards shard }) }
+        ensures refused { (e : E) → result ≡ Err (error.Next e)
+            → (before : S) × (slice_get self.old.nodes.shards shard ≡ Some (S.state before))
+            × F.post next before (Err e)
+            × (self.new.nodes
+            ≡ record self.old.nodes { shards = remove self.old.nodes.shards shard }) }
     {
         self.spent = true;
         match swap_in(&mut self.shards, usize::from(shard), next) {
@@ -313,16 +324,26 @@ impl<S: Journalled, R: Routing> World<S, R> {
     ) -> Result<(), SwapErr<E>>
         requires live { self.old.spent ≡ false }
         requires there { router < length self.old.nodes.routers }
-        requires next { (before : R) → slice_get self.old.nodes.routers router ≡ Some (R.state before) → F.pre next before }
-        ensures swapped { OnOk result ((before : R) × (after : R) × (slice_get self.old.nodes.routers router ≡ Some (R.state before)) × F.post next before (Ok after)
-            × (self.new.nodes ≡ record self.old.nodes { routers = slice_set self.old.nodes.routers router (R.state after) })) }
-        ensures run { OnOk result (self.new.run ≡ self.old.run ++ ran.Swapped (node.Router router) ∷ []) }
-        ensures happens { ((before after : R) → slice_get self.old.nodes.routers router ≡ Some (R.state before) → F.post next before (Ok after) → RouterRenews router (R.state before) (R.state after))
-            → OnOk result (Happens self.old.nodes (ran.Swapped (node.Router router)) self.new.nodes) }
+        requires next { (before : R)
+            → slice_get self.old.nodes.routers router ≡ Some (R.state before) → F.pre next before }
+        ensures swapped { OnOk result ((before : R) × (after : R) × (slice_get
+            self.old.nodes.routers router ≡ Some (R.state before)) × F.post next before (Ok after)
+            × (self.new.nodes ≡ record self.old.nodes
+            { routers = slice_set self.old.nodes.routers router (R.state after) })) }
+        ensures run { OnOk result
+            (self.new.run ≡ self.old.run ++ ran.Swapped (node.Router router) ∷ []) }
+        ensures happens { ((before after : R)
+            → slice_get self.old.nodes.routers router ≡ Some (R.state before)
+            → F.post next before (Ok after) → RouterRenews router (R.state before) (R.state after))
+            → OnOk result
+            (Happens self.old.nodes (ran.Swapped (node.Router router)) self.new.nodes) }
         ensures live { OnOk result (self.new.spent ≡ false) }
         ensures count { AsManyUnlessNext self.old.nodes result self.new.nodes }
-        ensures refused { (e : E) → result ≡ Err (error.Next e) → (before : R) × (slice_get self.old.nodes.routers router ≡ Some (R.state before)) × F.post next before (Err e)
-            × (self.new.nodes ≡ record self.old.nodes { routers = remove self.old.nodes.routers router }) }
+        ensures refused { (e : E) → result ≡ Err (error.Next e)
+            → (before : R) × (slice_get self.old.nodes.routers router ≡ Some (R.state before))
+            × F.post next before (Err e)
+            × (self.new.nodes
+            ≡ record self.old.nodes { routers = remove self.old.nodes.routers router }) }
     {
         self.spent = true;
         match swap_in(&mut self.routers, usize::from(router), next) {
@@ -335,7 +356,8 @@ impl<S: Journalled, R: Routing> World<S, R> {
     fn swapped<E>(&mut self, node: NodeId) -> Result<(), SwapErr<E>>
         requires spent { self.old.spent ≡ true }
         requires listed { self.old.commits ≡ commits_of self.old.nodes }
-        ensures ok { OnOk result (self.new ≡ record self.old { run = self.old.run ++ ran.Swapped node ∷ []; spent = false }) }
+        ensures ok { OnOk result (self.new
+            ≡ record self.old { run = self.old.run ++ ran.Swapped node ∷ []; spent = false }) }
         ensures nodes { self.new.nodes ≡ self.old.nodes }
         ensures refused { (e : E) → result ≡ Err (error.Next e) → ⊥ }
     {

@@ -5,10 +5,11 @@ use bson_core::Value;
 use op_msg::Feeder;
 use std::alloc::{AllocError, Global};
 
-/// A file of cases that is run: how many there were, the number of the line, the values that rose so far, and the stream.
+/// A file of cases that is run: how many there were, the number of the line, the values that rose
+/// so far, and the stream.
 ///
-/// A line is `CALL WORDS => WANTED`; `limit N`, a new stream with that limit, or `feed HEX`, bytes that come on it; blank, or
-/// a comment, which begins with `#`. Any other line is a failure.
+/// A line is `CALL WORDS => WANTED`; `limit N`, a new stream with that limit, or `feed HEX`, bytes
+/// that come on it; blank, or a comment, which begins with `#`. Any other line is a failure.
 #[derive(Drop)]
 pub struct Cases {
     pub count: u64,

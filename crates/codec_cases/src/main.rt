@@ -1,6 +1,8 @@
-//! Runs the cases of documents, their order, messages and streams that lie in a folder, the current one where none is named,
-//! and prints each that goes another way than it says, and how many there were in each file. With three words, as
-//! `read 1000 FILE` or `write 1000 FILE`, it reads or writes the document of the file's digits so often (bench/codecs).
+//! Runs the cases of documents, their order, messages and streams that lie in a folder, the current
+//! one where none is named, and prints each that goes another way than it says, and how many there
+//! were in each file. With three words, as
+//! `read 1000 FILE` or `write 1000 FILE`, it reads or writes the document of the file's digits so
+//! often (bench/codecs).
 #![tactic(auto)]
 
 mod cases;

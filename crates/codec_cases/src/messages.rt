@@ -62,7 +62,8 @@ pub fn written(alloc: Global, digits: &str) -> Result<String, AllocError> {
     }
 }
 
-/// What is asked of bytes that may be no message: their number, their form, and whether a reply is wanted.
+/// What is asked of bytes that may be no message: their number, their form, and whether a reply is
+/// wanted.
 pub fn asked(alloc: Global, digits: &str) -> Result<String, AllocError> {
     let Ok(bytes) = hex::decode(alloc, digits) else {
         return String::from_str(alloc, "no digits");

@@ -17,7 +17,8 @@ pub fn first_value(alloc: Global, digits: &str) -> Result<Value, AllocError> {
     }
 }
 
-/// The bracket of a value, where it comes after all of these; else the place of the first that it doesn't.
+/// The bracket of a value, where it comes after all of these; else the place of the first that it
+/// doesn't.
 pub fn risen(alloc: Global, lower: &[Value], value: &Value) -> Result<String, AllocError> {
     for (place, other) in lower.iter().enumerate() {
         let rises = compare(other, value) == Ordering::Less;

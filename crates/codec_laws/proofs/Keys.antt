@@ -24,11 +24,15 @@ record IsKey (x : Value-F Value) (id : Id) : Type 0 where
   bytes : values.bytes_of x ≡ bytes_of id
   parts : ◌≡◌ {A = List Part} (values.parts_of x) []
 
-same_key : (x : Value-F Value) (made id : Id) → ◌≡◌ {A = Option Id} (Some made) (Some id) → IsKey x made → IsKey x id
+same_key : (x : Value-F Value) (made id : Id) → ◌≡◌ {A = Option Id} (Some made) (Some id)
+    → IsKey x made → IsKey x id
 same_key x made id is key = let same : made ≡ id = cc in subst (IsKey x) same key
 
-plain : (x : Value-F Value) (id : Id) → values.bracket_of x ≡ kind_of id → values.number_of x ≡ number_of id → values.bytes_of x ≡ bytes_of id → ◌≡◌ {A = List Part} (values.parts_of x) [] → IsKey x id
-plain x id bracket number bytes parts = record { bracket = bracket; number = number; bytes = bytes; parts = parts }
+plain : (x : Value-F Value) (id : Id) → values.bracket_of x ≡ kind_of id
+    → values.number_of x ≡ number_of id → values.bytes_of x ≡ bytes_of id
+    → ◌≡◌ {A = List Part} (values.parts_of x) [] → IsKey x id
+plain x id bracket number bytes parts =
+    record { bracket = bracket; number = number; bytes = bytes; parts = parts }
 
 key : (x : Value-F Value) (id : Id) → id_of_kind x ≡ Some id → IsKey x id
 key of.Null id is = absurd cc
@@ -44,13 +48,27 @@ then_nothing Less = refl
 then_nothing Equal = refl
 then_nothing Greater = refl
 
-then_last : (a b c : Ordering) → ordering_then a (ordering_then b (ordering_then c Equal)) ≡ ordering_then a (ordering_then b c)
+then_last : (a b c : Ordering) → ordering_then a (ordering_then b (ordering_then c Equal))
+    ≡ ordering_then a (ordering_then b c)
 then_last a b c = ap (λ (o : Ordering). ordering_then a (ordering_then b o)) (then_nothing c)
 
-by_keys : (x y : Value-F Value) (i j : Id) → IsKey x i → IsKey y j → level field_cmp x y ≡ id_cmp i j
+by_keys : (x y : Value-F Value) (i j : Id) → IsKey x i → IsKey y j
+    → level field_cmp x y ≡ id_cmp i j
 by_keys x y i j first second =
-    rw (first.bracket, first.number, first.bytes, first.parts, second.bracket, second.number, second.bytes, second.parts)
-    (then_last (nat_cmp (kind_of i) (kind_of j)) (int_cmp (number_of i) (number_of j)) (slice_cmp nat_cmp (bytes_of i) (bytes_of j)))
+    rw (
+      first.bracket,
+      first.number,
+      first.bytes,
+      first.parts,
+      second.bracket,
+      second.number,
+      second.bytes,
+      second.parts,
+    )
+    (then_last (nat_cmp (kind_of i) (kind_of j)) (int_cmp (number_of i) (number_of j))
+    (slice_cmp nat_cmp (bytes_of i) (bytes_of j)))
 
-pub ids_as_values : (a b : Value) (i j : Id) → id_of a ≡ Some i → id_of b ≡ Some j → id_cmp i j ≡ value_cmp a b
-ids_as_values a b i j first second = sym (opened a b ∙ by_keys (out-Value a) (out-Value b) i j (key (out-Value a) i first) (key (out-Value b) j second))
+pub ids_as_values : (a b : Value) (i j : Id) → id_of a ≡ Some i → id_of b ≡ Some j
+    → id_cmp i j ≡ value_cmp a b
+ids_as_values a b i j first second = sym (opened a b ∙ by_keys (out-Value a) (out-Value b) i j
+    (key (out-Value a) i first) (key (out-Value b) j second))

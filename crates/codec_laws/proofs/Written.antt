@@ -1,5 +1,6 @@
 -- A document has a spelling in the grammar's terms, where its length allows it.
-use Rattle.std.proofs.Common.{◌≡◌, ◌↔◌, ℕ, zero, suc, ◌+◌, ◌%◌, ◌^◌, ◌≤◌, ◌<◌, Bool, true, not, eqb, List, [], ◌∷◌, length, map, refl, sym, subst, arith, ℤ}
+use Rattle.std.proofs.Common.{◌≡◌, ◌↔◌, ℕ, zero, suc, ◌+◌, ◌%◌, ◌^◌, ◌≤◌, ◌<◌, Bool, true, not, eqb}
+use Rattle.std.proofs.Common.{List, [], ◌∷◌, length, map, refl, sym, subst, arith, ℤ}
 use Rattle.std.specs.Prelude.{FitsSigned}
 use Rattle.std.specs.Int.{w32, w64}
 use Rattle.std.specs.List.{All}
@@ -24,16 +25,20 @@ use Rattle.bson_core.specs.Spelling.{Coded, coded, element, elements, numbered, 
 use Rattle.bson_core.specs.Grammar.{Relation, values_of, ReadsAt, reads_leaf, ReadsElements}
 use Rattle.bson_core.specs.Nesting.{greatest, levels}
 use Rattle.bson_core.specs.Written.{most, IsWritten}
-use Rattle.bson_core.proofs.InGrammar.{text_written, bin_written, oid_written, bool_written, date_written, null_written, int_written, stamp_written, long_written}
+use Rattle.bson_core.proofs.InGrammar.{text_written, bin_written, oid_written, bool_written}
+use Rattle.bson_core.proofs.InGrammar.{date_written, null_written, int_written, stamp_written}
+use Rattle.bson_core.proofs.InGrammar.{long_written}
 use Rattle.bson_core.proofs.Spelled.{coded_doc, coded_list}
 use Rattle.bson_core.proofs.Lengths.{length_framed}
-use Rattle.codec_laws.specs.Spells.{named_by_place, spells_step, SpellsAt, Spells, IsSpelt, IsFieldSpelt}
+use Rattle.codec_laws.specs.Spells.{named_by_place, spells_step, SpellsAt, Spells, IsSpelt}
+use Rattle.codec_laws.specs.Spells.{IsFieldSpelt}
 use Rattle.codec_laws.proofs.Levels.{levels_of, levels_rolled, flat_step}
 use Rattle.codec_laws.proofs.Spelt.{document_spelt, spelt_short}
 
 -- Values that hold no others.
 
-leaf_spells : (spells : Value → Relation) (x : Value-F Value) (kind : ℕ) (bytes : List ℕ) → reads_leaf x kind bytes → spells_step spells x kind bytes
+leaf_spells : (spells : Value → Relation) (x : Value-F Value) (kind : ℕ) (bytes : List ℕ)
+    → reads_leaf x kind bytes → spells_step spells x kind bytes
 leaf_spells spells (of.Doc fields) kind bytes h = absurd h
 leaf_spells spells (of.List values) kind bytes h = absurd h
 leaf_spells spells x kind bytes h = h
@@ -43,7 +48,8 @@ unfolding ReadsAt SpellsAt
 leaf_spelt value flat written zero deep small = written zero deep small
 leaf_spelt value flat written (suc depth) deep small =
     let c = coded value in
-    leaf_spells (SpellsAt depth) (out-Value value) c.0 c.1 (flat_step (ReadsAt depth) (out-Value value) c.0 c.1 flat (written (suc depth) deep small))
+    leaf_spells (SpellsAt depth) (out-Value value) c.0 c.1
+    (flat_step (ReadsAt depth) (out-Value value) c.0 c.1 flat (written (suc depth) deep small))
 
 pub text_spelt : (t : List ℕ) → is_utf8 t ≡ true → IsSpelt (variants.Text t)
 unfolding out-Value denote.Hole.Carrier.out
@@ -88,14 +94,23 @@ digit_is_not_zero n = rw (ne_eqb (48 + n) 0 (λ is. omega arith)) refl
 
 no_zero_in_decimal : (n : ℕ) → n < 2 ^ 64 → has_no_zero (decimal n) ≡ true
 no_zero_in_decimal = decimal_by_steps (λ n ds. has_no_zero ds ≡ true) (λ n lt. digit_is_not_zero n)
-    (λ n ds le front. rw (list_all-append (λ b. not (eqb b 0)) ds ((48 + n % 10) ∷ []), front, digit_is_not_zero (n % 10)) refl)
+    (λ n ds le front. rw (
+      list_all-append (λ b. not (eqb b 0)) ds ((48 + n % 10) ∷ []),
+      front,
+      digit_is_not_zero (n % 10),
+    ) refl)
 
 place_is_name : (n : ℕ) → n < 2 ^ 64 → IsName (decimal n)
-place_is_name n lt = (is_utf8-from_IsUtf8 _ (IsUtf8-from_ascii (decimal n) (IsAscii-decimal n lt)), no_zero_in_decimal n lt)
+place_is_name n lt = (
+  is_utf8-from_IsUtf8 _ (IsUtf8-from_ascii (decimal n) (IsAscii-decimal n lt)),
+  no_zero_in_decimal n lt,
+)
 
 -- Documents and lists.
 
-elements_spelt : (depth : ℕ) (fields : Document) → All IsFieldSpelt fields → greatest (map levels (values_of fields)) ≤ depth → length (elements fields) ≤ most → ReadsElements (SpellsAt depth) fields (elements fields)
+elements_spelt : (depth : ℕ) (fields : Document) → All IsFieldSpelt fields
+    → greatest (map levels (values_of fields)) ≤ depth → length (elements fields) ≤ most
+    → ReadsElements (SpellsAt depth) fields (elements fields)
 elements_spelt depth [] all deep small = refl
 elements_spelt depth (field ∷ fields) all deep small =
     let first = All-head IsFieldSpelt field fields all in
@@ -108,11 +123,15 @@ elements_spelt depth (field ∷ fields) all deep small =
       first.1 depth (omega arith) (omega (arith, len, inner)),
       first.0,
       refl,
-      elements_spelt depth fields (All-tail IsFieldSpelt field fields all) (omega arith) (omega (arith, len)),
+      elements_spelt depth fields (All-tail IsFieldSpelt field fields all) (omega arith)
+          (omega (arith, len)),
     )
 
-items_spelt : (depth place : ℕ) (values : List Value) → All IsSpelt values → greatest (map levels values) ≤ depth → place + length (numbered place (map coded values)) ≤ most
-    → ReadsElements (SpellsAt depth) (named_by_place place values) (numbered place (map coded values))
+items_spelt : (depth place : ℕ) (values : List Value)
+    → All IsSpelt values → greatest (map levels values) ≤ depth
+    → place + length (numbered place (map coded values)) ≤ most
+    → ReadsElements (SpellsAt depth) (named_by_place place values)
+    (numbered place (map coded values))
 items_spelt depth place [] all deep small = refl
 items_spelt depth place (value ∷ values) all deep small =
     let first = All-head IsSpelt value values all in
@@ -126,10 +145,12 @@ items_spelt depth place (value ∷ values) all deep small =
       first depth (omega arith) (omega (arith, len, inner)),
       place_is_name place (omega arith),
       refl,
-      items_spelt depth (place + 1) values (All-tail IsSpelt value values all) (omega arith) (omega (arith, len, inner)),
+      items_spelt depth (place + 1) values (All-tail IsSpelt value values all) (omega arith)
+          (omega (arith, len, inner)),
     )
 
-step_spells : (depth : ℕ) (x : Value-F Value) (kind : ℕ) (bytes : List ℕ) → spells_step (SpellsAt depth) x kind bytes → SpellsAt (suc depth) (roll-Value x) kind bytes
+step_spells : (depth : ℕ) (x : Value-F Value) (kind : ℕ) (bytes : List ℕ)
+    → spells_step (SpellsAt depth) x kind bytes → SpellsAt (suc depth) (roll-Value x) kind bytes
 unfolding SpellsAt
 step_spells depth x kind bytes h = rw out-roll-Value h
 
@@ -140,7 +161,16 @@ doc_spelt fields all (suc depth) deep small =
     let short : length (framed (elements fields)) ≤ most = rw (coded_doc fields) at small in
     let len = length_framed (elements fields) in
     subst (λ (c : Coded). SpellsAt (suc depth) (views.Doc fields) c.0 c.1) (sym (coded_doc fields))
-    (step_spells depth (of.Doc fields) 3 (framed (elements fields)) (refl, (elements fields, elements_spelt depth fields all (omega (arith, levels_rolled (of.Doc fields))) (omega (arith, len)), refl, omega (arith, len))))
+    (step_spells depth (of.Doc fields) 3 (framed (elements fields)) (
+      refl,
+      (
+        elements fields,
+        elements_spelt depth fields all (omega (arith, levels_rolled (of.Doc fields)))
+            (omega (arith, len)),
+        refl,
+        omega (arith, len),
+      ),
+    ))
 
 pub list_spelt : (values : List Value) → All IsSpelt values → IsSpelt (views.List values)
 unfolding views.roll-Value denote.Hole.Carrier.roll
@@ -149,17 +179,39 @@ list_spelt values all (suc depth) deep small =
     let items = numbered 0 (map coded values) in
     let short : length (framed items) ≤ most = rw (coded_list values) at small in
     let len = length_framed items in
-    subst (λ (c : Coded). SpellsAt (suc depth) (views.List values) c.0 c.1) (sym (coded_list values))
-    (step_spells depth (of.List values) 4 (framed items) (refl, (items, items_spelt depth 0 values all (omega (arith, levels_rolled (of.List values))) (omega (arith, len)), refl, omega (arith, len))))
+    subst (λ (c : Coded). SpellsAt (suc depth) (views.List values) c.0 c.1)
+    (sym (coded_list values))
+    (step_spells depth (of.List values) 4 (framed items) (
+      refl,
+      (
+        items,
+        items_spelt depth 0 values all (omega (arith, levels_rolled (of.List values)))
+            (omega (arith, len)),
+        refl,
+        omega (arith, len),
+      ),
+    ))
 
 -- The whole.
 
-spells_spelling : (doc : Document) → All IsFieldSpelt doc → length (spelling doc) ≤ most → Spells doc (spelling doc)
+spells_spelling : (doc : Document) → All IsFieldSpelt doc → length (spelling doc) ≤ most
+    → Spells doc (spelling doc)
 spells_spelling doc all small =
     let len = length_framed (elements doc) in
-    let depth = greatest (map levels (values_of doc)) in
-    (depth, (elements doc, elements_spelt depth doc all (omega arith) (omega (arith, len)), refl, omega (arith, len)))
+    let depth = greatest (map levels (values_of doc)) in (
+      depth,
+      (
+        elements doc,
+        elements_spelt depth doc all (omega arith) (omega (arith, len)),
+        refl,
+        omega (arith, len),
+      ),
+    )
 
-pub spells_where_short : (doc : Document) → All IsFieldSpelt doc → (bytes : List ℕ) → Spells doc bytes ↔ ((bytes ≡ spelling doc) × (length bytes ≤ most))
-spells_where_short doc all bytes =
-    (λ h. (document_spelt doc bytes h, spelt_short doc bytes h), λ h. subst (Spells doc) (sym h.0) (spells_spelling doc all (subst (λ (t : List ℕ). length t ≤ most) h.0 h.1)))
+pub spells_where_short : (doc : Document) → All IsFieldSpelt doc → (bytes : List ℕ)
+    → Spells doc bytes ↔ ((bytes ≡ spelling doc) × (length bytes ≤ most))
+spells_where_short doc all bytes = (
+  λ h. (document_spelt doc bytes h, spelt_short doc bytes h),
+  λ h. subst (Spells doc) (sym h.0)
+      (spells_spelling doc all (subst (λ (t : List ℕ). length t ≤ most) h.0 h.1)),
+)

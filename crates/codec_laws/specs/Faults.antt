@@ -1,6 +1,7 @@
 -- What the faults of documents and of messages say of the bytes that were to be read, in the words
 -- of BSON 1.1 (bsonspec.org) and of the MongoDB wire protocol.
-use Rattle.std.specs.Prelude.{◌≡◌, ◌≢◌, ℕ, ◌≤◌, ◌<◌, ◌^◌, min, true, false, List, length, take, drop, slice_index, None}
+use Rattle.std.specs.Prelude.{◌≡◌, ◌≢◌, ℕ, ◌≤◌, ◌<◌, ◌^◌, min, true, false, List, length, take}
+use Rattle.std.specs.Prelude.{drop, slice_index, None}
 use Rattle.std.specs.Int.{w32, from_le_bytes}
 use Rattle.op_msg.specs.Limits.{most_internal, most_message}
 use Rattle.bson_core.specs.declared.error.BsonErr.{BsonErr}
@@ -21,7 +22,8 @@ number_from place bytes = from_le_bytes w32 (take 4 (drop place bytes))
 abbrev pub IsThere : ℕ → List ℕ → BsonErr → Type 0
 IsThere limit bytes document.Short = Unit {0}
 IsThere limit bytes (document.Length at) = at ≤ length bytes
-IsThere limit bytes (document.Kind at byte) = (at < length bytes) × (slice_index bytes at ≡ byte) × (kind_of byte ≡ None)
+IsThere limit bytes (document.Kind at byte) = (at < length bytes) × (slice_index bytes at ≡ byte)
+    × (kind_of byte ≡ None)
 IsThere limit bytes (document.Text at) = at ≤ length bytes
 IsThere limit bytes (document.Bool at) = (at < length bytes) × (1 < slice_index bytes at)
 IsThere limit bytes (document.Deep at) = at ≤ length bytes

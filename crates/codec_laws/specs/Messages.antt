@@ -11,13 +11,15 @@ use Rattle.codec_laws.specs.Spells.{Spells}
 -- documents one after the other
 abbrev pub SpellsDocuments : List Document → List ℕ → Type 0
 SpellsDocuments [] bytes = bytes ≡ []
-SpellsDocuments (doc ∷ docs) bytes = (first : List ℕ) × (rest : List ℕ) × Spells doc first × (bytes ≡ first ++ rest) × SpellsDocuments docs rest
+SpellsDocuments (doc ∷ docs) bytes = (first : List ℕ) × (rest : List ℕ) × Spells doc first
+    × (bytes ≡ first ++ rest) × SpellsDocuments docs rest
 
 -- sections of kind 1 one after the other
 abbrev pub SpellsSequences : List Sequence → List ℕ → Type 0
 SpellsSequences [] bytes = bytes ≡ []
 SpellsSequences (seq ∷ seqs) bytes =
-    (documents : List ℕ) × (rest : List ℕ) × IsName seq.0 × SpellsDocuments seq.1 documents × (bytes ≡ sequence_section seq.0 documents ++ rest) × SpellsSequences seqs rest
+    (documents : List ℕ) × (rest : List ℕ) × IsName seq.0 × SpellsDocuments seq.1 documents
+    × (bytes ≡ sequence_section seq.0 documents ++ rest) × SpellsSequences seqs rest
 
 -- an OP_MSG whose one flag is moreToCome, where it has it
 pub record SpellsCurrent (f : Frame) (bytes : List ℕ) : Type 0 where
@@ -25,7 +27,8 @@ pub record SpellsCurrent (f : Frame) (bytes : List ℕ) : Type 0 where
   pub sequences : List ℕ
   pub of_body : Spells f.body body
   pub of_sequences : SpellsSequences f.seqs sequences
-  pub spelt : bytes ≡ front (length bytes) f.request_id f.response_to (flags_of f.more) ++ (0 ∷ body ++ sequences)
+  pub spelt : bytes
+      ≡ front (length bytes) f.request_id f.response_to (flags_of f.more) ++ (0 ∷ body ++ sequences)
 
 -- an OP_REPLY
 pub record SpellsReply (f : Frame) (bytes : List ℕ) : Type 0 where

@@ -21,8 +21,10 @@ named_by_place place (value ∷ values) = (decimal place, value) ∷ named_by_pl
 
 -- a value, where those inside it are spelt so
 abbrev pub spells_step : (Value → Relation) → Value-F Value → Relation
-spells_step spells (of.Doc fields) kind bytes = (kind ≡ 3) × IsFramed (ReadsElements spells fields) bytes
-spells_step spells (of.List values) kind bytes = (kind ≡ 4) × IsFramed (ReadsElements spells (named_by_place 0 values)) bytes
+spells_step spells (of.Doc fields) kind bytes = (kind ≡ 3)
+    × IsFramed (ReadsElements spells fields) bytes
+spells_step spells (of.List values) kind bytes = (kind ≡ 4)
+    × IsFramed (ReadsElements spells (named_by_place 0 values)) bytes
 spells_step spells leaf kind bytes = reads_leaf leaf kind bytes
 
 -- these bytes are the spelling of this value, of this kind, with at most so many levels in it
@@ -41,7 +43,8 @@ IsRead doc bytes = (levels : ℕ) × IsFramed (ReadsElements (ReadsAt levels) do
 -- the bytes of a value are its spelling, where its length allows it, within as many levels as it
 -- has
 abbrev pub IsSpelt : Value → Type 0
-IsSpelt value = (depth : ℕ) → levels value ≤ depth → length (coded value).1 ≤ most → SpellsAt depth value (coded value).0 (coded value).1
+IsSpelt value = (depth : ℕ) → levels value ≤ depth → length (coded value).1 ≤ most
+    → SpellsAt depth value (coded value).0 (coded value).1
 
 -- a name, and a value that is spelt so
 abbrev pub IsFieldSpelt : List ℕ × Value → Type 0

@@ -12,14 +12,16 @@ ghost use Rattle.codec_laws.specs.Faults.{IsThere, HasItsLength, HasOtherCode, I
 /// A document's fault is there: its place is one of the bytes, and of the byte there it says what
 /// is so. Reading never tells want of memory.
 pub fn faults_of_documents_are_there()
-    ensures { (limit : ℕ) (bytes : List ℕ) (e : BsonErr) → document_of limit bytes ≡ Err e → IsThere limit bytes e }
+    ensures { (limit : ℕ) (bytes : List ℕ) (e : BsonErr) → document_of limit bytes ≡ Err e
+        → IsThere limit bytes e }
 {}
 
 /// A fault is told of bytes exactly where it is their first: they are too few, their count is above
 /// the limit or not theirs, or it stands first among the elements of the document, or of one that
 /// it holds, behind elements that are well formed.
 pub fn the_first_fault_is_told(bytes: &[u8])
-    ensures { (limit : ℕ) (e : BsonErr) → (document_of limit bytes.now ≡ Err e) ↔ IsTold limit bytes.now e }
+    ensures { (limit : ℕ) (e : BsonErr) → (document_of limit bytes.now ≡ Err e)
+        ↔ IsTold limit bytes.now e }
 {
     let _len = bytes.len();
 }
@@ -30,7 +32,10 @@ pub fn the_first_fault_is_told(bytes: &[u8])
 pub fn faults_of_messages_are_said()
     ensures said { (bytes : List ℕ) (e : FrameErr) → frame_of bytes ≡ Err e → IsSaid bytes e }
     ensures length { (bytes : List ℕ) → ¬ HasItsLength bytes → frame_of bytes ≡ Err message.Length }
-    ensures too_large { (bytes : List ℕ) → HasItsLength bytes → most_internal < length bytes → frame_of bytes ≡ Err message.TooLarge }
-    ensures op_code { (bytes : List ℕ) → IsFramed bytes → HasOtherCode bytes → frame_of bytes ≡ Err message.OpCode }
-    ensures flags { (bit : ℕ) (bytes : List ℕ) → IsFramed bytes → IsLeastUnknown bit bytes → frame_of bytes ≡ Err (message.Flags bit) }
+    ensures too_large { (bytes : List ℕ) → HasItsLength bytes → most_internal < length bytes
+        → frame_of bytes ≡ Err message.TooLarge }
+    ensures op_code { (bytes : List ℕ) → IsFramed bytes → HasOtherCode bytes
+        → frame_of bytes ≡ Err message.OpCode }
+    ensures flags { (bit : ℕ) (bytes : List ℕ) → IsFramed bytes → IsLeastUnknown bit bytes
+        → frame_of bytes ≡ Err (message.Flags bit) }
 {}

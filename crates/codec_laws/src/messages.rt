@@ -6,6 +6,8 @@ ghost use Rattle.codec_laws.specs.Messages.{SpellsCurrent, SpellsReply};
 
 /// A message has one spelling at most in each form, which is `message`.
 pub fn a_message_has_one_spelling()
-    ensures current { (f : Frame) (bytes : List ℕ) → f.legacy ≡ false → SpellsCurrent f bytes → bytes ≡ message f }
-    ensures reply { (f : Frame) (bytes : List ℕ) → f.legacy ≡ true → SpellsReply f bytes → bytes ≡ message f }
+    ensures current { (f : Frame) (bytes : List ℕ) → f.legacy ≡ false → SpellsCurrent f bytes
+        → bytes ≡ message f }
+    ensures reply { (f : Frame) (bytes : List ℕ) → f.legacy ≡ true → SpellsReply f bytes
+        → bytes ≡ message f }
 {}

@@ -82,7 +82,8 @@ fn values_are_spelt(values: &[Value])
 /// A document has a spelling exactly where its bytes are as many as an int32 counts; then it is
 /// `spelling`.
 pub fn a_document_has_its_spelling(doc: &Doc)
-    ensures { (bytes : List ℕ) → Spells doc.now bytes ↔ ((bytes ≡ spelling doc.now) × (length bytes ≤ most)) }
+    ensures { (bytes : List ℕ) → Spells doc.now bytes
+        ↔ ((bytes ≡ spelling doc.now) × (length bytes ≤ most)) }
 {
     fields_are_spelt(doc.as_slice());
 }
@@ -93,20 +94,24 @@ pub fn a_spelling_is_the_only_one()
     ensures is { (d : Document) (bytes : List ℕ) → Spells d bytes → bytes ≡ spelling d }
     ensures short { (d : Document) (bytes : List ℕ) → Spells d bytes → length bytes ≤ most }
     ensures read { (d : Document) (bytes : List ℕ) → Spells d bytes → IsRead d bytes }
-    ensures no_front { (a b : Document) (bytes rest : List ℕ) → Spells a bytes → Spells b (bytes ++ rest) → rest ≡ [] }
+    ensures no_front { (a b : Document) (bytes rest : List ℕ) → Spells a bytes
+        → Spells b (bytes ++ rest) → rest ≡ [] }
 {}
 
 /// The levels of a document are those within which its bytes are read.
 pub fn levels_are_nesting()
-    ensures within { (levels : ℕ) (d : Document) (bytes : List ℕ) → IsRead d bytes → nesting d ≤ levels → Reads levels d bytes }
-    ensures bound { (levels : ℕ) (d : Document) (bytes : List ℕ) → 1 ≤ levels → Reads levels d bytes → nesting d ≤ levels }
+    ensures within { (levels : ℕ) (d : Document) (bytes : List ℕ) → IsRead d bytes
+        → nesting d ≤ levels → Reads levels d bytes }
+    ensures bound { (levels : ℕ) (d : Document) (bytes : List ℕ) → 1 ≤ levels → Reads levels d bytes
+        → nesting d ≤ levels }
     ensures one { (a b : Document) (bytes : List ℕ) → IsRead a bytes → IsRead b bytes → a ≡ b }
 {}
 
 /// Reading gives a document exactly where the bytes are that document, at whatever depth, and limit
 /// and nesting allow it.
 pub fn reading_is_the_grammar(bytes: &[u8], limit: u32)
-    ensures { (d : Document) → (document_of limit bytes.now ≡ Ok d) ↔ (IsRead d bytes.now × (nesting d ≤ 100) × (length bytes.now ≤ limit)) }
+    ensures { (d : Document) → (document_of limit bytes.now ≡ Ok d)
+        ↔ (IsRead d bytes.now × (nesting d ≤ 100) × (length bytes.now ≤ limit)) }
 {
     grammar_has_no_fault(bytes, limit);
 }

@@ -7,14 +7,16 @@ use crate::told::told;
 use single_node::{Answer, Server};
 use std::alloc::{AllocError, Global};
 
-/// A file of cases that is run: how many there were, the number of the line, the wall, the connection and the message of
-/// the case, the words of a reply, and the server that all messages of the file go to.
+/// A file of cases that is run: how many there were, the number of the line, the wall, the
+/// connection and the message of the case, the words of a reply, and the server that all messages
+/// of the file go to.
 ///
-/// A line is `ask HEX`, a message; `deletes N`, `insert of SIZE` and `insert two of SIZE`, messages that are too large to be
-/// written out; `reads WORDS`, what read_command makes of it; `answers HEX`, or `answers N bytes`, `answers silent` or
-/// `answers closed N`, what the server answers it; `tell WORDS`, a reply, and `says TEXT`, the text of its document; `wall
-/// N`, the moment of the messages behind it, and `on N`, their connection; `new server` and `one serial left`, another
-/// server; or a comment, which begins with `#`.
+/// A line is `ask HEX`, a message; `deletes N`, `insert of SIZE` and `insert two of SIZE`, messages
+/// that are too large to be written out; `reads WORDS`, what read_command makes of it; `answers
+/// HEX`, or `answers N bytes`, `answers silent` or
+/// `answers closed N`, what the server answers it; `tell WORDS`, a reply, and `says TEXT`, the text
+/// of its document; `wall N`, the moment of the messages behind it, and `on N`, their connection;
+/// `new server` and `one serial left`, another server; or a comment, which begins with `#`.
 #[derive(Drop)]
 pub struct Cases {
     pub count: u64,
@@ -38,7 +40,8 @@ fn nearly_spent(alloc: Global) -> Server
     server
 }
 
-/// The answer in words; the bytes of a reply in hexadecimal digits, or how many they are where these are many.
+/// The answer in words; the bytes of a reply in hexadecimal digits, or how many they are where
+/// these are many.
 fn words_of(alloc: Global, answer: &Answer) -> Result<String, AllocError> {
     match answer {
         Answer::Reply(bytes) => {

@@ -62,7 +62,8 @@ fn document(alloc: Global, id: i32, size: u32) -> Result<Doc, AllocError> {
     Ok(Items::from_vec(fields))
 }
 
-/// `{insert: "c", $db: "d"}` with a section `documents` of documents `{_id: 1, a: TEXT}` and so on, each of that many bytes.
+/// `{insert: "c", $db: "d"}` with a section `documents` of documents `{_id: 1, a: TEXT}` and so on,
+/// each of that many bytes.
 pub fn inserts(alloc: Global, count: u16, size: u32) -> Result<Vec<u8>, AllocError> {
     let mut docs = Vec::new(alloc);
     for place in 0..count {

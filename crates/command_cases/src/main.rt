@@ -1,5 +1,5 @@
-//! Runs the cases that lie in a folder, and prints each that goes another way than it says: what messages ask, what they are
-//! refused with, what a server answers them, and how replies read.
+//! Runs the cases that lie in a folder, and prints each that goes another way than it says: what
+//! messages ask, what they are refused with, what a server answers them, and how replies read.
 #![tactic(auto)]
 
 mod cases;

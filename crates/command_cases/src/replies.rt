@@ -9,7 +9,8 @@ use std::alloc::{AllocError, Global};
 use std::str::SplitWhitespace;
 use txn_types::{By, Cause, Id, OpErr, Tag, Token, Ts, What};
 
-/// The words of a reply, which are taken from the front. A word that is missing is empty, and one that is no number is 0.
+/// The words of a reply, which are taken from the front. A word that is missing is empty, and one
+/// that is no number is 0.
 #[derive(Drop)]
 struct Words<'a> {
     words: SplitWhitespace<'a>,
@@ -253,7 +254,8 @@ fn can_be_told(reply: &Reply) -> bool
     }
 }
 
-/// The text of the document by which the reply is told. The words are those of the time and of the reply.
+/// The text of the document by which the reply is told. The words are those of the time and of the
+/// reply.
 pub fn reply_text(alloc: Global, line: &str) -> Result<String, AllocError> {
     let mut words = Words {
         words: line.split_whitespace(),

@@ -1,6 +1,7 @@
 -- Messages beside one another that differ in one field, and the fields that a command takes no
 -- notice of.
-use Rattle.std.specs.Prelude.{ℕ, ◌&&◌, Bool, true, false, not, List, [], ◌∷◌, map, Option, Some, codes}
+use Rattle.std.specs.Prelude.{ℕ, ◌&&◌, Bool, true, false, not, List, [], ◌∷◌, map, Option, Some}
+use Rattle.std.specs.Prelude.{codes}
 use Rattle.std.specs.Str.{bytes_eq}
 use Rattle.bson_core.specs.declared.value.Value.{Value}
 use Rattle.bson_core.specs.declared.value.Value.TheViews as values
@@ -47,7 +48,8 @@ is_ignored c name = is_free (rule_of c name) && not (is_token c name)
 -- what every command passes over, and what one passes over besides
 abbrev pub free_names : List (List ℕ)
 free_names =
-    codes "$readPreference" ∷ codes "comment" ∷ codes "maxTimeMS" ∷ codes "apiVersion" ∷ codes "apiStrict" ∷ codes "apiDeprecationErrors" ∷ codes "bypassDocumentValidation" ∷ []
+    codes "$readPreference" ∷ codes "comment" ∷ codes "maxTimeMS" ∷ codes "apiVersion"
+    ∷ codes "apiStrict" ∷ codes "apiDeprecationErrors" ∷ codes "bypassDocumentValidation" ∷ []
 
 abbrev pub own_free_names : Command → List (List ℕ)
 own_free_names (command.Statement statement.Insert) = codes "ordered" ∷ []

@@ -8,5 +8,6 @@ ghost use Rattle.command_laws.specs.Missing.{IsElseRight};
 
 /// That something is missing is told only where nothing else is wrong.
 pub fn missing_comes_last()
-    ensures { (wall : ℕ) (frame : Frame) (name : List ℕ) → request_of wall frame ≡ Err (Parse (Missing name)) → IsElseRight wall frame }
+    ensures { (wall : ℕ) (frame : Frame) (name : List ℕ)
+        → request_of wall frame ≡ Err (Parse (Missing name)) → IsElseRight wall frame }
 {}

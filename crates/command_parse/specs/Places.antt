@@ -15,7 +15,8 @@ abbrev pub counted : ℕ → ℕ → List ℕ
 counted first zero = []
 counted first (suc n) = first ∷ counted (first + 1) n
 
--- its items stand at 0, 1, 2 and so on, and they are at most 100,000, the manual's maxWriteBatchSize
+-- its items stand at 0, 1, 2 and so on, and they are at most 100,000, the manual's
+-- maxWriteBatchSize
 pub record HasPlaces (o : Op) : Type 0 where
   pub count : ℕ
   pub most : count ≤ most_batch

@@ -22,7 +22,8 @@ fn read_documents<'a>(
     batch: Batch,
     values: &'a [Value],
 ) -> Result<Vec<&'a Doc>, CrudErr>
-    ensures { Gives (λ docs. map (λ doc. doc.now) docs.items) result (each (λ value. or_wrong (list_name batch) (document_in (out-Value value))) values.now) }
+    ensures { Gives (λ docs. map (λ doc. doc.now) docs.items) result
+        (each (λ value. or_wrong (list_name batch) (document_in (out-Value value))) values.now) }
 {
     let mut docs = Vec::new(alloc);
     for value in values {
@@ -42,7 +43,8 @@ fn of_batch_size<'a>(
     batch: Batch,
     docs: Vec<&'a Doc>,
 ) -> Result<Vec<&'a Doc>, CrudErr>
-    ensures docs { Gives (λ docs. map (λ doc. doc.now) docs.items) result (of_batch_size (list_name batch) (map (λ doc. doc.now) docs.entry.items)) }
+    ensures docs { Gives (λ docs. map (λ doc. doc.now) docs.items) result
+        (of_batch_size (list_name batch) (map (λ doc. doc.now) docs.entry.items)) }
     ensures most { IfOk result (λ docs. length docs.items ≤ most_batch) }
 {
     if docs.is_empty() || docs.len() > MAX_WRITE_BATCH_SIZE {
@@ -59,7 +61,8 @@ pub fn batch_in_value<'a>(
     batch: Batch,
     value: &'a Value,
 ) -> Result<Vec<&'a Doc>, CrudErr>
-    ensures docs { Gives (λ docs. map (λ doc. doc.now) docs.items) result (batch_in batch (InBody value.now)) }
+    ensures docs { Gives (λ docs. map (λ doc. doc.now) docs.items) result
+        (batch_in batch (InBody value.now)) }
     ensures most { IfOk result (λ docs. length docs.items ≤ most_batch) }
 {
     match value {
@@ -79,7 +82,8 @@ pub fn batch_in_section<'a>(
     batch: Batch,
     section: &'a [Doc],
 ) -> Result<Vec<&'a Doc>, CrudErr>
-    ensures docs { Gives (λ docs. map (λ doc. doc.now) docs.items) result (batch_in batch (InSection section.now)) }
+    ensures docs { Gives (λ docs. map (λ doc. doc.now) docs.items) result
+        (batch_in batch (InSection section.now)) }
     ensures most { IfOk result (λ docs. length docs.items ≤ most_batch) }
 {
     let mut docs = Vec::new(alloc);

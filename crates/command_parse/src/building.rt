@@ -97,7 +97,8 @@ fn delete_item(alloc: Global, index: u32, item: &Doc) -> Result<DeleteItem, Crud
 /// The documents to insert, each with its place.
 pub fn insert_items(alloc: Global, docs: &[&Doc]) -> Result<InsertItems, CrudErr>
     requires { length docs.now ≤ most_batch }
-    ensures { Gives (λ items. items) result (each_at insert_item 0 (map (λ doc. doc.now) docs.now)) }
+    ensures { Gives (λ items. items) result
+        (each_at insert_item 0 (map (λ doc. doc.now) docs.now)) }
 {
     let mut items = InsertItems::new(alloc);
     for (index, doc) in docs.iter().enumerate() {
@@ -109,7 +110,8 @@ pub fn insert_items(alloc: Global, docs: &[&Doc]) -> Result<InsertItems, CrudErr
 /// The updates, each with its place.
 pub fn update_items(alloc: Global, docs: &[&Doc]) -> Result<UpdateItems, CrudErr>
     requires { length docs.now ≤ most_batch }
-    ensures { Gives (λ items. items) result (each_at update_item 0 (map (λ doc. doc.now) docs.now)) }
+    ensures { Gives (λ items. items) result
+        (each_at update_item 0 (map (λ doc. doc.now) docs.now)) }
 {
     let mut items = Vec::new(alloc);
     for (index, doc) in docs.iter().enumerate() {
@@ -121,7 +123,8 @@ pub fn update_items(alloc: Global, docs: &[&Doc]) -> Result<UpdateItems, CrudErr
 /// The deletions, each with its place.
 pub fn delete_items(alloc: Global, docs: &[&Doc]) -> Result<DeleteItems, CrudErr>
     requires { length docs.now ≤ most_batch }
-    ensures { Gives (λ items. items) result (each_at delete_item 0 (map (λ doc. doc.now) docs.now)) }
+    ensures { Gives (λ items. items) result
+        (each_at delete_item 0 (map (λ doc. doc.now) docs.now)) }
 {
     let mut items = Vec::new(alloc);
     for (index, doc) in docs.iter().enumerate() {

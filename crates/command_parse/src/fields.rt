@@ -28,7 +28,8 @@ use sqlite_items::Items;
 use std::alloc::{AllocError, Global};
 use txn_types::{Ns, NsErr};
 
-/// Whether the text is the name of a database: whether it makes a namespace with that of some collection.
+/// Whether the text is the name of a database: whether it makes a namespace with that of some
+/// collection.
 fn is_database(alloc: Global, name: &str) -> Result<bool, AllocError>
     ensures { IfOk result (λ b. b ≡ is_database name.now) }
 {
@@ -40,7 +41,8 @@ fn is_database(alloc: Global, name: &str) -> Result<bool, AllocError>
     }
 }
 
-/// Whether the text is the name of a collection: whether it makes a namespace with that of some database.
+/// Whether the text is the name of a collection: whether it makes a namespace with that of some
+/// database.
 fn is_collection(alloc: Global, name: &str) -> Result<bool, AllocError>
     ensures { IfOk result (λ b. b ≡ is_collection name.now) }
 {
@@ -53,7 +55,8 @@ fn is_collection(alloc: Global, name: &str) -> Result<bool, AllocError>
 }
 
 fn check_database(alloc: Global, name: &Name, value: &Value) -> Result<Option<Name>, CrudErr>
-    ensures { Gives (λ m. m) result (complete (or_wrong name.now (text_where is_database (out-Value value.now)))) }
+    ensures { Gives (λ m. m) result
+        (complete (or_wrong name.now (text_where is_database (out-Value value.now)))) }
 {
     if let Value::Text(text) = value {
         if is_database(alloc, text.as_str())? {
@@ -66,7 +69,8 @@ fn check_database(alloc: Global, name: &Name, value: &Value) -> Result<Option<Na
 }
 
 fn check_collection(alloc: Global, name: &Name, value: &Value) -> Result<Option<Name>, CrudErr>
-    ensures { Gives (λ m. m) result (complete (or_wrong name.now (text_where is_collection (out-Value value.now)))) }
+    ensures { Gives (λ m. m) result
+        (complete (or_wrong name.now (text_where is_collection (out-Value value.now)))) }
 {
     if let Value::Text(text) = value {
         if is_collection(alloc, text.as_str())? {
@@ -164,7 +168,8 @@ fn check_known_section(
     name: &Name,
     docs: &[Doc],
 ) -> Result<Option<Name>, CrudErr>
-    ensures { Gives (λ m. m) result (field_by name.now (InSection docs.now) (rule_of command name.now)) }
+    ensures { Gives (λ m. m) result
+        (field_by name.now (InSection docs.now) (rule_of command name.now)) }
 {
     let Some(rule) = Rule::of(command, name.as_str()) else {
         return Err(CrudErr::UnknownField {
@@ -201,8 +206,8 @@ fn check_section(
     }
 }
 
-/// What is missing first in the fields of a command. A command has few fields of different names, since any other is
-/// refused at once; so `names` stays short.
+/// What is missing first in the fields of a command. A command has few fields of different names,
+/// since any other is refused at once; so `names` stays short.
 #[tactic(auto, using(crate::proofs::Behind::behind_behind))]
 fn check_fields(
     alloc: Global,
@@ -210,7 +215,8 @@ fn check_fields(
     body: &[(Name, Value)],
     sections: &[(Name, Items<Doc>)],
 ) -> Result<Option<Name>, CrudErr>
-    ensures { Gives (λ m. m) result (check_each (field_check command) (firsts (map in_body body.now ++ map in_section sections.now))) }
+    ensures { Gives (λ m. m) result (check_each (field_check command)
+        (firsts (map in_body body.now ++ map in_section sections.now))) }
 {
     let mut names = Vec::new(alloc);
     let mut missing = None;
@@ -266,7 +272,8 @@ pub fn is_in_transaction(frame: &Frame) -> bool
 /// The name, where there is no field of it.
 fn lacks(alloc: Global, frame: &Frame, name: &str) -> Result<Option<Name>, CrudErr>
     requires { IsTrue (has_no_zero name.now) }
-    ensures { Gives (λ m. m) result (Ok (lacking (λ name. is_some (given_in name frame.now)) (name.now ∷ []))) }
+    ensures { Gives (λ m. m) result
+        (Ok (lacking (λ name. is_some (given_in name frame.now)) (name.now ∷ []))) }
 {
     if has_field(frame, name) {
         return Ok(None);
@@ -280,7 +287,8 @@ fn lacking_batch(
     statement: Statement,
     frame: &Frame,
 ) -> Result<Option<Name>, CrudErr>
-    ensures { Gives (λ m. m) result (Ok (lacking (λ name. is_some (given_in name frame.now)) (needed_list (batch_of statement)))) }
+    ensures { Gives (λ m. m) result (Ok (lacking (λ name. is_some (given_in name frame.now))
+        (needed_list (batch_of statement)))) }
 {
     let Some(batch) = Batch::of(statement) else {
         return Ok(None);
@@ -293,7 +301,8 @@ fn lacking_batch(
 
 /// The database, where it is lacking and no older form of messages has it.
 fn lacking_database(alloc: Global, frame: &Frame) -> Result<Option<Name>, CrudErr>
-    ensures { Gives (λ m. m) result (Ok (lacking (λ name. is_some (given_in name frame.now)) (needed_database frame.now))) }
+    ensures { Gives (λ m. m) result
+        (Ok (lacking (λ name. is_some (given_in name frame.now)) (needed_database frame.now))) }
 {
     if frame.legacy {
         return Ok(None);
@@ -303,7 +312,8 @@ fn lacking_database(alloc: Global, frame: &Frame) -> Result<Option<Name>, CrudEr
 
 /// The session or the number that is lacking, where they are wanted.
 fn lacking_session(alloc: Global, wanted: bool, frame: &Frame) -> Result<Option<Name>, CrudErr>
-    ensures { Gives (λ m. m) result (Ok (lacking (λ name. is_some (given_in name frame.now)) (needed_session wanted))) }
+    ensures { Gives (λ m. m) result
+        (Ok (lacking (λ name. is_some (given_in name frame.now)) (needed_session wanted))) }
 {
     if !wanted {
         return Ok(None);
@@ -324,7 +334,8 @@ fn lacking_in_statement(
     statement: Statement,
     frame: &Frame,
 ) -> Result<Option<Name>, CrudErr>
-    ensures { Gives (λ m. m) result (Ok (lacking (λ name. is_some (given_in name frame.now)) (needed (command.Statement statement) frame.now))) }
+    ensures { Gives (λ m. m) result (Ok (lacking (λ name. is_some (given_in name frame.now))
+        (needed (command.Statement statement) frame.now))) }
 {
     let batch = lacking_batch(alloc, statement, frame)?;
     let database = lacking_database(alloc, frame)?;
@@ -335,7 +346,8 @@ fn lacking_in_statement(
 /// The first of the fields that the end of a transaction has to have and hasn't.
 #[tactic(auto, using(crate::proofs::Lacking::lacking_behind))]
 fn lacking_in_end(alloc: Global, frame: &Frame) -> Result<Option<Name>, CrudErr>
-    ensures { Gives (λ m. m) result (Ok (lacking (λ name. is_some (given_in name frame.now)) (needed command.Commit frame.now))) }
+    ensures { Gives (λ m. m) result (Ok (lacking (λ name. is_some (given_in name frame.now))
+        (needed command.Commit frame.now))) }
 {
     let database = lacking_database(alloc, frame)?;
     let session = lacking_session(alloc, true, frame)?;
@@ -345,7 +357,8 @@ fn lacking_in_end(alloc: Global, frame: &Frame) -> Result<Option<Name>, CrudErr>
 
 /// The first of the fields that a command has to have and hasn't.
 fn lacking(alloc: Global, command: Command, frame: &Frame) -> Result<Option<Name>, CrudErr>
-    ensures { Gives (λ m. m) result (Ok (lacking (λ name. is_some (given_in name frame.now)) (needed command frame.now))) }
+    ensures { Gives (λ m. m) result
+        (Ok (lacking (λ name. is_some (given_in name frame.now)) (needed command frame.now))) }
 {
     match command {
         Command::Ping | Command::Hello { .. } | Command::EndSessions => {
@@ -356,9 +369,10 @@ fn lacking(alloc: Global, command: Command, frame: &Frame) -> Result<Option<Name
     }
 }
 
-/// Whether the message has the fields that the command has; else its first refusal. The refusals are as those of
-/// `read_op`, where `lsid` and `txnNumber` are missing behind `$db`, and the end of a transaction needs `autocommit` behind
-/// them.
+/// Whether the message has the fields that the command has; else its first refusal. The refusals
+/// are as those of
+/// `read_op`, where `lsid` and `txnNumber` are missing behind `$db`, and the end of a transaction
+/// needs `autocommit` behind them.
 #[tactic(auto, unfolding(crate::specs::Operations::checked))]
 pub fn check(alloc: Global, command: Command, frame: &Frame) -> Result<(), CrudErr>
     ensures { Gives (λ u. u) result (checked command frame.now) }

@@ -90,8 +90,8 @@ fn check_item_field(
     Ok(None)
 }
 
-/// Refuses a field of an item that isn't as it has to be. An item has few fields of different names, since any other is
-/// refused at once; so `names` stays short.
+/// Refuses a field of an item that isn't as it has to be. An item has few fields of different
+/// names, since any other is refused at once; so `names` stays short.
 #[tactic(auto, using(crate::proofs::Behind::behind_behind))]
 fn check_item_fields(
     alloc: Global,
@@ -184,7 +184,8 @@ fn check_item(alloc: Global, batch: Batch, doc: &Doc) -> Result<Option<Name>, Cr
 /// What is missing first in the documents of a batch.
 #[tactic(auto, using(crate::proofs::Behind::behind_behind))]
 pub fn check_items(alloc: Global, batch: Batch, docs: &[&Doc]) -> Result<Option<Name>, CrudErr>
-    ensures { Gives (λ m. m) result (check_each (item_check batch) (map (λ doc. doc.now) docs.now)) }
+    ensures { Gives (λ m. m) result
+        (check_each (item_check batch) (map (λ doc. doc.now) docs.now)) }
 {
     let mut missing = None;
     for doc in docs {

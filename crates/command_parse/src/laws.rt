@@ -1,4 +1,5 @@
-//! Laws of the definitions: a law is the contract of a function that changes nothing and gives nothing.
+//! Laws of the definitions: a law is the contract of a function that changes nothing and gives
+//! nothing.
 ghost use Rattle.std.specs.Prelude.{◌≡◌, Ok};
 ghost use Rattle.op_msg.specs.declared.frame.Frame.{Frame as AnyFrame};
 ghost use Rattle.txn_types.specs.declared.operation.Op.{Op as AnyOp};
@@ -8,5 +9,6 @@ ghost use Rattle.command_parse.specs.Places.{HasPlaces};
 
 /// The items of an operation stand at 0, 1, 2 and so on, and they are at most 100,000.
 pub fn items_have_places()
-    ensures { (s : AnyStatement) (frame : AnyFrame) (o : AnyOp) → op_of s frame ≡ Ok o → HasPlaces o }
+    ensures { (s : AnyStatement) (frame : AnyFrame) (o : AnyOp) → op_of s frame ≡ Ok o
+        → HasPlaces o }
 {}

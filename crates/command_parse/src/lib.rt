@@ -1,4 +1,5 @@
-//! Commands of clients: the fields of a message are held against those that the command has, and the operation is read.
+//! Commands of clients: the fields of a message are held against those that the command has, and
+//! the operation is read.
 #![tactic(auto)]
 
 mod batches;

@@ -51,7 +51,8 @@ fn namespace_in(alloc: Global, statement: Statement, body: &Doc) -> Result<Ns, C
 
 /// The documents of the batch, from its field or its section.
 fn batch_under<'a>(alloc: Global, batch: Batch, frame: &'a Frame) -> Result<Vec<&'a Doc>, CrudErr>
-    ensures docs { Gives (λ docs. map (λ doc. doc.now) docs.items) result (batch_under batch frame.now) }
+    ensures docs { Gives (λ docs. map (λ doc. doc.now) docs.items) result
+        (batch_under batch frame.now) }
     ensures most { IfOk result (λ docs. length docs.items ≤ most_batch) }
 {
     let section = match get(&frame.body, batch.as_str()) {
@@ -134,13 +135,16 @@ fn build(alloc: Global, statement: Statement, ns: Ns, frame: &Frame) -> Result<O
     }
 }
 
-/// The operation that the message asks for, read as that statement. Its fields are those of the body, and behind them the
-/// sections; of one name the first counts, and the others aren't looked at.
+/// The operation that the message asks for, read as that statement. Its fields are those of the
+/// body, and behind them the sections; of one name the first counts, and the others aren't looked
+/// at.
 ///
-/// Otherwise the first refusal is answered that is met front to back: `UnknownField` for a field that the statement or an
-/// item of it hasn't, `WrongKind` with the name of the field or of the inner field, or what `read_filter` and
-/// `read_update` refuse. `Missing` comes where there is no other refusal: first what a field lacks inside, then the list
-/// of documents, then `$db`, and of a statement of a transaction `lsid` and `txnNumber`.
+/// Otherwise the first refusal is answered that is met front to back: `UnknownField` for a field
+/// that the statement or an item of it hasn't, `WrongKind` with the name of the field or of the
+/// inner field, or what `read_filter` and
+/// `read_update` refuse. `Missing` comes where there is no other refusal: first what a field lacks
+/// inside, then the list of documents, then `$db`, and of a statement of a transaction `lsid` and
+/// `txnNumber`.
 ///
 /// It goes through the message twice: it is checked first, and built when nothing was refused.
 #[tactic(auto, unfolding(crate::specs::Operations::op_of))]

@@ -229,8 +229,8 @@ fn check_concern_field(alloc: Global, name: &Name, value: &Value) -> Result<Opti
     })
 }
 
-/// Refuses a field of a read concern that isn't as it has to be. It has three of different names at most, since any other
-/// is refused at once.
+/// Refuses a field of a read concern that isn't as it has to be. It has three of different names at
+/// most, since any other is refused at once.
 #[tactic(auto, using(crate::proofs::Behind::behind_behind))]
 fn check_concern_fields(alloc: Global, fields: &[(Name, Value)]) -> Result<Option<Name>, CrudErr>
     ensures { Gives (λ m. m) result (check_each concern_field (firsts fields.now)) }
@@ -262,7 +262,8 @@ pub fn check_concern(alloc: Global, name: &Name, value: &Value) -> Result<Option
 /// What is missing first in the sessions that stand under that name.
 #[tactic(auto, using(crate::proofs::Behind::behind_behind))]
 fn check_each_session(alloc: Global, name: &Name, values: &[Value]) -> Result<Option<Name>, CrudErr>
-    ensures { Gives (λ m. m) result (check_each (λ value. session_in name.now (out-Value value)) values.now) }
+    ensures { Gives (λ m. m) result
+        (check_each (λ value. session_in name.now (out-Value value)) values.now) }
 {
     let mut missing = None;
     for value in values {

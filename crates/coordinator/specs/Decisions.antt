@@ -1,7 +1,8 @@
--- What a coordinator decides, by all the votes that reach it, in the words of two-phase commit: the first vote of each
--- participant counts; the first of these that refuses aborts; where all have a timestamp, the transaction commits at the
--- greatest.
-use Rattle.std.specs.Prelude.{ℕ, ◌&&◌, Bool, not, List, [], ◌∷◌, ◌++◌, nat_eq, Option, Some, None, Result, Ok, Err, if◌then◌else◌}
+-- What a coordinator decides, by all the votes that reach it, in the words of two-phase commit: the
+-- first vote of each participant counts; the first of these that refuses aborts; where all have a
+-- timestamp, the transaction commits at the greatest.
+use Rattle.std.specs.Prelude.{ℕ, ◌&&◌, Bool, not, List, [], ◌∷◌, ◌++◌, nat_eq, Option, Some, None}
+use Rattle.std.specs.Prelude.{Result, Ok, Err, if◌then◌else◌}
 use Rattle.std.specs.List.{list_any, list_all}
 use Rattle.txn_types.specs.Causes.{cause_number}
 use Rattle.txn_types.specs.declared.cause.Cause.{Cause}
@@ -17,7 +18,8 @@ Ballot = ℕ × Result ℕ Cause
 -- a coordination behind votes that arrive one after the other
 abbrev pub heard : List Ballot → Coordinated → Coordinated
 heard [] c = c
-heard (ballot ∷ ballots) c = heard ballots (if counts ballot.0 c then behind_vote ballot.0 ballot.1 c else c)
+heard (ballot ∷ ballots) c =
+    heard ballots (if counts ballot.0 c then behind_vote ballot.0 ballot.1 c else c)
 
 -- the first vote of each participant, in the order in which they arrive; these shards voted before
 abbrev pub is_first : Plan → List ℕ → ℕ → Bool
@@ -26,7 +28,8 @@ is_first plan before shard = takes_part shard plan && not (list_any (nat_eq shar
 abbrev pub first_votes : Plan → List ℕ → List Ballot → List Ballot
 first_votes plan before [] = []
 first_votes plan before (ballot ∷ ballots) =
-    if is_first plan before ballot.0 then ballot ∷ first_votes plan (before ++ ballot.0 ∷ []) ballots
+    if is_first plan before ballot.0
+    then ballot ∷ first_votes plan (before ++ ballot.0 ∷ []) ballots
     else first_votes plan before ballots
 
 -- the abort by the first vote that refuses
@@ -61,4 +64,5 @@ commit_at plan votes = if are_all plan votes then Some (Commit (greatest votes))
 -- what the first votes decide; nothing without a vote
 abbrev pub outcome : Plan → List Ballot → Option Decision
 outcome plan [] = None
-outcome plan (vote ∷ votes) = unless_refused (first_refusal (vote ∷ votes)) (commit_at plan (times (vote ∷ votes)))
+outcome plan (vote ∷ votes) =
+    unless_refused (first_refusal (vote ∷ votes)) (commit_at plan (times (vote ∷ votes)))

@@ -10,6 +10,7 @@ unheard parts votes = filter (λ part. not (list_any (λ vote. nat_eq vote.0 par
 abbrev pub unacked : List (ℕ × ℕ) → List ℕ → List (ℕ × ℕ)
 unacked parts acks = filter (λ part. not (list_any (nat_eq part.0) acks)) parts
 
-pub record HasRoom (parts votes : List (ℕ × ℕ)) (vote_room : ℕ) (acks : List ℕ) (ack_room : ℕ) : Type 0 where
+pub record HasRoom (parts votes : List (ℕ × ℕ)) (vote_room : ℕ) (acks : List ℕ)
+    (ack_room : ℕ) : Type 0 where
   pub for_votes : length votes + length (unheard parts votes) ≤ vote_room
   pub for_acks : length acks + length (unacked parts acks) ≤ ack_room

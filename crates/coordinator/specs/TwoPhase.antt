@@ -1,7 +1,10 @@
--- Two-phase commit at its coordinator. Each participant's first vote counts: the first vote against decides to abort,
--- and the last of all timestamps decides to commit at the greatest. A participant that is named twice votes once and
--- acknowledges once. After the server's outline of commits across shards.
-use Rattle.std.specs.Prelude.{ℕ, ◌&&◌, Bool, not, List, [], ◌∷◌, ◌++◌, map, filter, fold, find, max, nat_eq, Option, Some, None, is_some, is_none, option_map, Result, Ok, Err, if◌then◌else◌}
+-- Two-phase commit at its coordinator. Each participant's first vote counts: the first vote against
+-- decides to abort, and the last of all timestamps decides to commit at the greatest. A participant
+-- that is named twice votes once and acknowledges once. After the server's outline of commits
+-- across shards.
+use Rattle.std.specs.Prelude.{ℕ, ◌&&◌, Bool, not, List, [], ◌∷◌, ◌++◌, map, filter, fold, find, max}
+use Rattle.std.specs.Prelude.{nat_eq, Option, Some, None, is_some, is_none, option_map, Result, Ok}
+use Rattle.std.specs.Prelude.{Err, if◌then◌else◌}
 use Rattle.std.specs.List.{list_any, list_all, flat_map}
 use Rattle.txn_types.specs.Causes.{cause_number}
 use Rattle.txn_types.specs.Letters.{Letter}
@@ -20,8 +23,8 @@ use Rattle.coordinator.specs.declared.plan.Plan.{Plan}
 abbrev pub Participant : Type 0
 Participant = ℕ × ℕ
 
--- a coordinated transaction: the plan; the shards that voted, with their timestamps; the decision; the shards that have
--- it; and the routers that wait for it, rising
+-- a coordinated transaction: the plan; the shards that voted, with their timestamps; the decision;
+-- the shards that have it; and the routers that wait for it, rising
 pub record Coordinated : Type 0 where
   pub plan : Plan
   pub votes : List (ℕ × ℕ)
@@ -59,7 +62,8 @@ is_asker router c = list_any (nat_eq router) c.askers
 
 -- behind a router's question; one that a decision answers changes nothing
 abbrev pub asked : Tag → ℕ → Coordinated → Coordinations → Coordinations
-asked tag router c coords = if is_none c.decision then with_coordinated tag (with_asker router c) coords else coords
+asked tag router c coords = if is_none c.decision
+    then with_coordinated tag (with_asker router c) coords else coords
 
 -- Votes.
 
@@ -94,11 +98,13 @@ with_decision decision c = record c { decision = decision }
 -- behind a vote that counts
 abbrev pub behind_vote : ℕ → Result ℕ Cause → Coordinated → Coordinated
 behind_vote shard (Err cause) c = with_decision (Some (decision.Abort shard (cause_number cause))) c
-behind_vote shard (Ok at) c = with_decision (commit_by (with_vote shard at c)) (with_vote shard at c)
+behind_vote shard (Ok at) c =
+    with_decision (commit_by (with_vote shard at c)) (with_vote shard at c)
 
 -- behind a vote; one that doesn't count changes nothing
 abbrev pub voted : Tag → ℕ → Result ℕ Cause → Coordinated → Coordinations → Coordinations
-voted tag shard vote c coords = if counts shard c then with_coordinated tag (behind_vote shard vote c) coords else coords
+voted tag shard vote c coords = if counts shard c
+    then with_coordinated tag (behind_vote shard vote c) coords else coords
 
 -- what a vote decides
 abbrev pub decided_by : ℕ → Result ℕ Cause → Coordinated → Option Decision
@@ -128,7 +134,8 @@ is_last_ack shard c = ack_counts shard c && all_acked (with_ack shard c)
 -- behind an acknowledgement that counts: once all have the decision the transaction is forgotten
 abbrev pub behind_ack : Tag → ℕ → Coordinated → Coordinations → Coordinations
 behind_ack tag shard c coords =
-    if all_acked (with_ack shard c) then taken_out tag_cmp tag coords else with_coordinated tag (with_ack shard c) coords
+    if all_acked (with_ack shard c) then taken_out tag_cmp tag coords
+    else with_coordinated tag (with_ack shard c) coords
 
 -- behind an acknowledgement; one that doesn't count changes nothing
 abbrev pub acked : Tag → ℕ → Coordinated → Coordinations → Coordinations
@@ -137,12 +144,22 @@ acked tag shard c coords = if ack_counts shard c then behind_ack tag shard c coo
 -- What is sent to participants, in the order of the plan.
 
 abbrev pub prepare_to : ℕ → Tag → Plan → Participant → Letter
-prepare_to own tag plan part =
-    (Shard part.0, msg.Prepare (record { tag = tag; lsid = plan.lsid; number = plan.number; boot = part.1; coordinator = own }))
+prepare_to own tag plan part = (
+  Shard part.0,
+  msg.Prepare (record {
+    tag = tag;
+    lsid = plan.lsid;
+    number = plan.number;
+    boot = part.1;
+    coordinator = own;
+  }),
+)
 
 abbrev pub decide_to : Tag → Plan → Decision → Participant → Letter
-decide_to tag plan decision part =
-    (Shard part.0, msg.Decide (record { tag = tag; lsid = plan.lsid; number = plan.number; decision = decision }))
+decide_to tag plan decision part = (
+  Shard part.0,
+  msg.Decide (record { tag = tag; lsid = plan.lsid; number = plan.number; decision = decision }),
+)
 
 abbrev pub prepares : ℕ → Tag → Plan → List Letter
 prepares own tag plan = map (prepare_to own tag plan) plan.parts
@@ -152,8 +169,10 @@ decides tag plan decision = map (decide_to tag plan decision) plan.parts
 
 -- once more: to those whose vote is wanted, or else to those that don't have the decision
 abbrev pub resends_by : ℕ → Tag → Coordinated → Option Decision → List Letter
-resends_by own tag c None = map (prepare_to own tag c.plan) (filter (λ part. not (has_voted part.0 c)) c.plan.parts)
-resends_by own tag c (Some decision) = map (decide_to tag c.plan decision) (filter (λ part. not (has_acked part.0 c)) c.plan.parts)
+resends_by own tag c None =
+    map (prepare_to own tag c.plan) (filter (λ part. not (has_voted part.0 c)) c.plan.parts)
+resends_by own tag c (Some decision) =
+    map (decide_to tag c.plan decision) (filter (λ part. not (has_acked part.0 c)) c.plan.parts)
 
 -- by rising tag
 abbrev pub resends : ℕ → Coordinations → List Letter

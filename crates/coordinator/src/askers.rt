@@ -6,7 +6,8 @@ ghost use Rattle.coordinator.specs.Askers.{routers};
 
 use std::marker::Model;
 
-/// The routers that wait, of the eight that a cluster may have. Contracts see their numbers, rising.
+/// The routers that wait, of the eight that a cluster may have. Contracts see their numbers,
+/// rising.
 #[derive(Drop)]
 pub struct Askers {
     waits: [bool; 8],

@@ -51,8 +51,8 @@ impl Coord {
         self.coordinations.get(&Key::new(tag))
     }
 
-    /// The commit of a transaction begins, which these participants take part in. It alone takes memory, also for all
-    /// that is kept of it later.
+    /// The commit of a transaction begins, which these participants take part in. It alone takes
+    /// memory, also for all that is kept of it later.
     pub fn start(
         &mut self,
         tag: Tag,
@@ -62,7 +62,8 @@ impl Coord {
     ) -> Result<(), CoordErr>
         requires new { coordinated_of self.old tag ≡ None }
         requires most { length parts.now ≤ 65535 }
-        ensures ok { OnOk result (self.new ≡ started tag (record { lsid = lsid; number = number; parts = parts.now }) self.old) }
+        ensures ok { OnOk result (self.new
+            ≡ started tag (record { lsid = lsid; number = number; parts = parts.now }) self.old) }
         ensures err { OnErr result (self.new ≡ self.old) }
         ensures memory { result ≢ Err CoordErr.Unknown }
     {
@@ -74,8 +75,10 @@ impl Coord {
     /// The decision, where one stands; else the router waits for it. It takes no memory.
     pub fn ask(&mut self, tag: Tag, router: u16) -> Result<Option<Decision>, CoordErr>
         requires { router < 8 }
-        ensures decision { MatchOption (coordinated_of self.old tag) (result ≡ Err CoordErr.Unknown) (λ c. result ≡ Ok c.decision) }
-        ensures after { MatchOption (coordinated_of self.old tag) (self.new ≡ self.old) (λ c. self.new ≡ asked tag router c self.old) }
+        ensures decision { MatchOption (coordinated_of self.old tag) (result ≡ Err CoordErr.Unknown)
+            (λ c. result ≡ Ok c.decision) }
+        ensures after { MatchOption (coordinated_of self.old tag) (self.new ≡ self.old)
+            (λ c. self.new ≡ asked tag router c self.old) }
     {
         match self.coordinations.get_mut(&Key::new(tag)) {
             Some(coordination) => Ok(coordination.ask(router)),
@@ -90,8 +93,10 @@ impl Coord {
         shard: u16,
         vote: &Result<Ts, Cause>,
     ) -> Result<Option<Decision>, CoordErr>
-        ensures decided { MatchOption (coordinated_of self.old tag) (result ≡ Err CoordErr.Unknown) (λ c. result ≡ Ok (decided_by shard vote.now c)) }
-        ensures after { MatchOption (coordinated_of self.old tag) (self.new ≡ self.old) (λ c. self.new ≡ voted tag shard vote.now c self.old) }
+        ensures decided { MatchOption (coordinated_of self.old tag) (result ≡ Err CoordErr.Unknown)
+            (λ c. result ≡ Ok (decided_by shard vote.now c)) }
+        ensures after { MatchOption (coordinated_of self.old tag) (self.new ≡ self.old)
+            (λ c. self.new ≡ voted tag shard vote.now c self.old) }
     {
         match self.coordinations.get_mut(&Key::new(tag)) {
             Some(coordination) => Ok(coordination.vote(shard, vote)),
@@ -101,7 +106,8 @@ impl Coord {
 
     /// The decision, where one stands. It takes no memory.
     pub fn decision(&self, tag: Tag) -> Result<Option<Decision>, CoordErr>
-        ensures { MatchOption (coordinated_of self.now tag) (result ≡ Err CoordErr.Unknown) (λ c. result ≡ Ok c.decision) }
+        ensures { MatchOption (coordinated_of self.now tag) (result ≡ Err CoordErr.Unknown)
+            (λ c. result ≡ Ok c.decision) }
     {
         match self.find(tag) {
             Some(coordination) => Ok(coordination.decision()),
@@ -109,10 +115,13 @@ impl Coord {
         }
     }
 
-    /// A participant has the decision. True at the last one: then the transaction is forgotten. It takes no memory.
+    /// A participant has the decision. True at the last one: then the transaction is forgotten. It
+    /// takes no memory.
     pub fn acked(&mut self, tag: Tag, shard: u16) -> Result<bool, CoordErr>
-        ensures last { MatchOption (coordinated_of self.old tag) (result ≡ Err CoordErr.Unknown) (λ c. result ≡ Ok (is_last_ack shard c)) }
-        ensures after { MatchOption (coordinated_of self.old tag) (self.new ≡ self.old) (λ c. self.new ≡ acked tag shard c self.old) }
+        ensures last { MatchOption (coordinated_of self.old tag) (result ≡ Err CoordErr.Unknown)
+            (λ c. result ≡ Ok (is_last_ack shard c)) }
+        ensures after { MatchOption (coordinated_of self.old tag) (self.new ≡ self.old)
+            (λ c. self.new ≡ acked tag shard c self.old) }
     {
         let is_last = match self.find(tag) {
             Some(coordination) => coordination.is_last_ack(shard),
@@ -136,7 +145,8 @@ impl Coord {
 
     /// Keeps an acknowledgement that isn't the last.
     fn keep_ack(&mut self, tag: Tag, shard: u16)
-        ensures kept { IfSome (coordinated_of self.old tag) (λ c. is_last_ack shard c ≡ false → self.new ≡ acked tag shard c self.old) }
+        ensures kept { IfSome (coordinated_of self.old tag)
+            (λ c. is_last_ack shard c ≡ false → self.new ≡ acked tag shard c self.old) }
         ensures none { IfNone (coordinated_of self.old tag) (self.new ≡ self.old) }
     {
         if let Some(coordination) = self.coordinations.get_mut(&Key::new(tag)) {
@@ -156,8 +166,10 @@ impl Coord {
 
     /// Whether the router waits for the decision. It takes no memory.
     pub fn asked(&self, tag: Tag, router: u16) -> bool
-        ensures asker { MatchOption (coordinated_of self.now tag) (result ≡ false) (λ c. result ≡ is_asker router c) }
-        ensures all { IfSome (coordinated_of self.now tag) (λ c. c.askers ≡ filter (λ r. is_asker r c) routers) }
+        ensures asker { MatchOption (coordinated_of self.now tag) (result ≡ false)
+            (λ c. result ≡ is_asker router c) }
+        ensures all { IfSome (coordinated_of self.now tag)
+            (λ c. c.askers ≡ filter (λ r. is_asker r c) routers) }
     {
         match self.find(tag) {
             Some(coordination) => coordination.is_asker(router),
@@ -168,7 +180,8 @@ impl Coord {
     /// Sets a decision that was journalled. It takes no memory.
     pub fn restore(&mut self, tag: Tag, decision: Decision)
         requires { IsSomeAnd (coordinated_of self.old tag) (λ c. c.decision ≡ None) }
-        ensures { IfSome (coordinated_of self.old tag) (λ c. self.new ≡ with_coordinated tag (with_decision (Some decision) c) self.old) }
+        ensures { IfSome (coordinated_of self.old tag)
+            (λ c. self.new ≡ with_coordinated tag (with_decision (Some decision) c) self.old) }
     {
         if let Some(coordination) = self.coordinations.get_mut(&Key::new(tag)) {
             coordination.decide(decision);
@@ -177,7 +190,8 @@ impl Coord {
 
     /// What is sent once more, in the order of tags and then of the plan.
     fn letters(&self, shard: u16, time: Ts) -> Result<Vec<Envelope>, AllocError>
-        ensures { IfOk result (λ v. v.items ≡ all_sent_by (NodeId.Shard shard) time (resends shard self.now)) }
+        ensures { IfOk result
+            (λ v. v.items ≡ all_sent_by (NodeId.Shard shard) time (resends shard self.now)) }
     {
         let mut letters = Vec::new(self.alloc);
         for (key, coordination) in &self.coordinations {
@@ -186,10 +200,11 @@ impl Coord {
         Ok(letters)
     }
 
-    /// Appends what this shard sends once more: to those whose vote is wanted, or else to those that don't have the
-    /// decision.
+    /// Appends what this shard sends once more: to those whose vote is wanted, or else to those
+    /// that don't have the decision.
     pub fn resend(&self, shard: u16, time: Ts, out: &mut Vec<Envelope>) -> Result<(), CoordErr>
-        ensures ok { OnOk result (out.new.items ≡ out.old.items ++ all_sent_by (NodeId.Shard shard) time (resends shard self.now)) }
+        ensures ok { OnOk result (out.new.items
+            ≡ out.old.items ++ all_sent_by (NodeId.Shard shard) time (resends shard self.now)) }
         ensures err { OnErr result (out.new.items ≡ out.old.items) }
         ensures memory { result ≢ Err CoordErr.Unknown }
     {

@@ -11,8 +11,8 @@ use std::alloc::{AllocError, Global};
 use std::marker::Model;
 use txn_types::{Cause, Decision, Envelope, Lsid, NodeId, Parts, Tag, Ts};
 
-/// A transaction that is coordinated. There is room for a vote and an acknowledgement of each participant from the
-/// start on, so that they take no memory.
+/// A transaction that is coordinated. There is room for a vote and an acknowledgement of each
+/// participant from the start on, so that they take no memory.
 #[derive(Drop)]
 pub struct Coordination {
     plan: Plan,
@@ -59,7 +59,8 @@ impl Coordination {
         parts: &[(u16, u32)],
     ) -> Result<Coordination, AllocError>
         requires { length parts.now ≤ 65535 }
-        ensures { IfOk result (λ c. c ≡ undecided (record { lsid = lsid; number = number; parts = parts.now })) }
+        ensures { IfOk result
+            (λ c. c ≡ undecided (record { lsid = lsid; number = number; parts = parts.now })) }
     {
         Ok(Coordination {
             plan: Plan {
@@ -90,7 +91,8 @@ impl Coordination {
     pub fn ask(&mut self, router: u16) -> Option<Decision>
         requires { router < 8 }
         ensures decision { result ≡ self.old.decision }
-        ensures after { self.new ≡ (if is_none self.old.decision then with_asker router self.old else self.old) }
+        ensures after { self.new
+            ≡ (if is_none self.old.decision then with_asker router self.old else self.old) }
     {
         if self.decision.is_none() {
             self.askers.add(router);
@@ -202,7 +204,8 @@ impl Coordination {
     /// Hears a vote, where it counts, and tells what it decides.
     pub fn vote(&mut self, shard: u16, vote: &Result<Ts, Cause>) -> Option<Decision>
         ensures decided { result ≡ decided_by shard vote.now self.old }
-        ensures after { self.new ≡ (if counts shard self.old then behind_vote shard vote.now self.old else self.old) }
+        ensures after { self.new
+            ≡ (if counts shard self.old then behind_vote shard vote.now self.old else self.old) }
     {
         if !self.counts(shard) {
             return None;
@@ -217,7 +220,8 @@ impl Coordination {
         self.acks.iter().any(|acked| *acked == shard)
     }
 
-    /// Whether an acknowledgement of the shard counts: there is a decision, and it is the participant's first.
+    /// Whether an acknowledgement of the shard counts: there is a decision, and it is the
+    /// participant's first.
     fn ack_counts(&self, shard: u16) -> bool
         ensures { result ≡ ack_counts shard self.now }
     {
@@ -252,7 +256,8 @@ impl Coordination {
 
     /// Keeps an acknowledgement, where it counts. It takes no memory.
     pub fn ack(&mut self, shard: u16)
-        ensures { self.new ≡ (if ack_counts shard self.old then with_ack shard self.old else self.old) }
+        ensures { self.new
+            ≡ (if ack_counts shard self.old then with_ack shard self.old else self.old) }
     {
         if self.ack_counts(shard) {
             self.keep_ack(shard);
@@ -268,7 +273,8 @@ impl Coordination {
 
     /// The participants whose vote is wanted.
     fn unheard(&self, alloc: Global) -> Result<Vec<(u16, u32)>, AllocError>
-        ensures { IfOk result (λ v. v.items ≡ filter (λ part. not (has_voted part.0 self.now)) self.now.plan.parts) }
+        ensures { IfOk result
+            (λ v. v.items ≡ filter (λ part. not (has_voted part.0 self.now)) self.now.plan.parts) }
     {
         let mut wanted = Vec::new(alloc);
         for part in self.plan.parts.as_slice() {
@@ -281,7 +287,8 @@ impl Coordination {
 
     /// The participants that don't have the decision.
     fn unacked(&self, alloc: Global) -> Result<Vec<(u16, u32)>, AllocError>
-        ensures { IfOk result (λ v. v.items ≡ filter (λ part. not (has_acked part.0 self.now)) self.now.plan.parts) }
+        ensures { IfOk result
+            (λ v. v.items ≡ filter (λ part. not (has_acked part.0 self.now)) self.now.plan.parts) }
     {
         let mut wanted = Vec::new(alloc);
         for part in self.plan.parts.as_slice() {
@@ -292,7 +299,8 @@ impl Coordination {
         Ok(wanted)
     }
 
-    /// What is sent once more: to those whose vote is wanted, or else to those that don't have the decision.
+    /// What is sent once more: to those whose vote is wanted, or else to those that don't have the
+    /// decision.
     pub fn resends(
         &self,
         alloc: Global,
@@ -300,7 +308,8 @@ impl Coordination {
         time: Ts,
         tag: Tag,
     ) -> Result<Vec<Envelope>, AllocError>
-        ensures { IfOk result (λ v. v.items ≡ all_sent_by (NodeId.Shard from) time (resends_by from tag self.now self.now.decision)) }
+        ensures { IfOk result (λ v. v.items ≡ all_sent_by (NodeId.Shard from) time
+            (resends_by from tag self.now self.now.decision)) }
     {
         match &self.decision {
             Some(decision) => {

@@ -1,5 +1,5 @@
-//! Two-phase commit, at the shard that coordinates it: who takes part, how they voted, what was decided, and who has
-//! the decision.
+//! Two-phase commit, at the shard that coordinates it: who takes part, how they voted, what was
+//! decided, and who has the decision.
 #![tactic(auto)]
 
 mod askers;

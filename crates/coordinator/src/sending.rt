@@ -34,7 +34,8 @@ pub fn prepares(
     plan: &Plan,
     to: &[(u16, u32)],
 ) -> Result<Vec<Envelope>, AllocError>
-    ensures { IfOk result (λ v. v.items ≡ all_sent_by (NodeId.Shard from) time (map (prepare_to from tag plan.now) to.now)) }
+    ensures { IfOk result (λ v. v.items
+        ≡ all_sent_by (NodeId.Shard from) time (map (prepare_to from tag plan.now) to.now)) }
 {
     let mut letters = Vec::new(alloc);
     for participant in to {
@@ -52,7 +53,8 @@ fn decide_letter(
     decision: &Decision,
     to: &(u16, u32),
 ) -> Envelope
-    ensures { result ≡ sent_by (NodeId.Shard from) time (decide_to tag plan.now decision.now to.now) }
+    ensures { result
+        ≡ sent_by (NodeId.Shard from) time (decide_to tag plan.now decision.now to.now) }
 {
     Envelope {
         from: NodeId::Shard(from),
@@ -77,7 +79,8 @@ pub fn decides(
     decision: &Decision,
     to: &[(u16, u32)],
 ) -> Result<Vec<Envelope>, AllocError>
-    ensures { IfOk result (λ v. v.items ≡ all_sent_by (NodeId.Shard from) time (map (decide_to tag plan.now decision.now) to.now)) }
+    ensures { IfOk result (λ v. v.items
+        ≡ all_sent_by (NodeId.Shard from) time (map (decide_to tag plan.now decision.now) to.now)) }
 {
     let mut letters = Vec::new(alloc);
     for participant in to {

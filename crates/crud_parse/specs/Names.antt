@@ -1,5 +1,5 @@
--- Names of operators and of fields. In the MongoDB manual the names of operators begin with a dollar sign, and a full
--- stop in a name makes it a path.
+-- Names of operators and of fields. In the MongoDB manual the names of operators begin with a
+-- dollar sign, and a full stop in a name makes it a path.
 use Rattle.std.specs.Prelude.{ℕ, ◌==◌, Bool, false, List, [], ◌∷◌}
 use Rattle.std.specs.List.{list_any}
 use Rattle.bson_core.specs.Fields.{Document}

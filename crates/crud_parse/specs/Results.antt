@@ -24,6 +24,7 @@ each read [] = Ok []
 each read (x ∷ xs) = read x >>= λ y. with_front (y ∷ []) (each read xs)
 
 -- what each of these gives, where that is a list
-abbrev pub each_of : {A B : Type 0} → (A → Result (List B) CrudErr) → List A → Result (List B) CrudErr
+abbrev pub each_of : {A B : Type 0} → (A → Result (List B) CrudErr) → List A
+    → Result (List B) CrudErr
 each_of read [] = Ok []
 each_of read (x ∷ xs) = read x >>= λ ys. with_front ys (each_of read xs)

@@ -4,11 +4,12 @@ ghost use Rattle.crud_parse.specs.declared.error.CrudErr.TheVariants.{Memory};
 use bson_core::Name;
 use std::alloc::{AllocError, AllocFailed};
 
-/// Why a filter, an update or a statement isn't read. Each but `Memory` has the name at which it was met.
+/// Why a filter, an update or a statement isn't read. Each but `Memory` has the name at which it
+/// was met.
 #[derive(Drop)]
 pub enum CrudErr {
-    /// The name begins with `$`, and is that of no operator that may stand there; or it stands beside operators and is
-    /// none.
+    /// The name begins with `$`, and is that of no operator that may stand there; or it stands
+    /// beside operators and is none.
     UnknownOperator { name: Name },
     /// The name of a field has a full stop: paths into documents aren't served.
     DottedName { name: Name },

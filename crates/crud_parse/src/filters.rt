@@ -34,7 +34,8 @@ fn are_documents(values: &[Value]) -> bool
     !values.is_empty() && all_are_documents(values)
 }
 
-/// The fields of the document that the value is, where the first of them is named as an operator is.
+/// The fields of the document that the value is, where the first of them is named as an operator
+/// is.
 fn operators_in(value: &Value) -> Option<&[(Name, Value)]>
     ensures { option_map (λ fields. fields.now) result ≡ operators_in (out-Value value.now) }
 {
@@ -62,7 +63,8 @@ fn list_in(alloc: Global, operator: &Name, value: &Value) -> Result<List, CrudEr
     }
 }
 
-/// The truth value that is the value of that name; a value of another kind is `WrongKind` with the name.
+/// The truth value that is the value of that name; a value of another kind is `WrongKind` with the
+/// name.
 pub fn flag_in(alloc: Global, operator: &Name, value: &Value) -> Result<bool, CrudErr>
     ensures { Gives (λ b. b) result (flag_in operator.now (out-Value value.now)) }
 {
@@ -125,7 +127,8 @@ fn read_conditions(
     Ok(filters)
 }
 
-/// What is asked of the field of that name: what each operator in the value asks, or that the field is equal to it.
+/// What is asked of the field of that name: what each operator in the value asks, or that the field
+/// is equal to it.
 fn read_field(alloc: Global, name: &Name, value: &Value) -> Result<Filter, CrudErr>
     ensures { Gives (λ f. f) result (field_filter name.now value.now) }
 {
@@ -142,7 +145,8 @@ fn read_field(alloc: Global, name: &Name, value: &Value) -> Result<Filter, CrudE
     }
 }
 
-/// The filter that the value of that name is, which has to be a document; otherwise it is `WrongKind` with the name, or what
+/// The filter that the value of that name is, which has to be a document; otherwise it is
+/// `WrongKind` with the name, or what
 /// `read_filter` refuses.
 #[cycle(filter)]
 pub fn read_inner(alloc: Global, name: &Name, value: &Value) -> Result<Filter, CrudErr>
@@ -158,7 +162,8 @@ pub fn read_inner(alloc: Global, name: &Name, value: &Value) -> Result<Filter, C
 
 #[cycle(filter)]
 fn read_all_inner(alloc: Global, name: &Name, values: &[Value]) -> Result<Vec<Filter>, CrudErr>
-    ensures { Gives (λ f. f.items) result (each (λ value. inner_by filter_of name.now (out-Value value)) values.now) }
+    ensures { Gives (λ f. f.items) result
+        (each (λ value. inner_by filter_of name.now (out-Value value)) values.now) }
 {
     let mut filters = Vec::new(alloc);
     for value in values {
@@ -220,13 +225,14 @@ fn read_elements(alloc: Global, fields: &[(Name, Value)]) -> Result<Vec<Filter>,
     Ok(filters)
 }
 
-/// The filter that the document is, however deep its filters lie: all of its elements hold. `$and`, `$or` and `$nor` have
-/// a list, not empty, of documents, which are filters. A field has a document of operators, or the value that it is to be
-/// equal to.
+/// The filter that the document is, however deep its filters lie: all of its elements hold. `$and`,
+/// `$or` and `$nor` have a list, not empty, of documents, which are filters. A field has a document
+/// of operators, or the value that it is to be equal to.
 ///
-/// Otherwise the first refusal is answered that is met in the order of the elements: `UnknownOperator`, `DottedName`, or
-/// `WrongKind` with the operator's name. Of `$and`, `$or` and `$nor` the kinds of all the values in the list are looked at
-/// first. `Missing` and `UnknownField` don't come.
+/// Otherwise the first refusal is answered that is met in the order of the elements:
+/// `UnknownOperator`, `DottedName`, or
+/// `WrongKind` with the operator's name. Of `$and`, `$or` and `$nor` the kinds of all the values in
+/// the list are looked at first. `Missing` and `UnknownField` don't come.
 ///
 /// It goes through the document once.
 #[cycle(filter)]

@@ -67,7 +67,8 @@ fn and_ops(
     kind: UpdateKind,
     fields: &[(Name, Value)],
 ) -> Result<Vec<UpdateOp>, CrudErr>
-    ensures { Gives (λ all. all.items) result (with_front ops.items (each (field_op kind) fields.now)) }
+    ensures { Gives (λ all. all.items) result
+        (with_front ops.items (each (field_op kind) fields.now)) }
 {
     for (name, value) in fields {
         ops.push(read_field_op(alloc, kind, name, value)?)?;
@@ -82,7 +83,8 @@ fn and_operator(
     name: &Name,
     value: &Value,
 ) -> Result<Vec<UpdateOp>, CrudErr>
-    ensures { Gives (λ all. all.items) result (with_front ops.items (ops_of (name.now, value.now))) }
+    ensures { Gives (λ all. all.items) result
+        (with_front ops.items (ops_of (name.now, value.now))) }
 {
     let Some(kind) = kind_of(name.as_str()) else {
         return Err(CrudErr::UnknownOperator {
@@ -108,12 +110,13 @@ fn read_ops(alloc: Global, operators: &[(Name, Value)]) -> Result<Vec<UpdateOp>,
     Ok(ops)
 }
 
-/// The update that the value is, under the name `u`: operators with their fields, where its first name begins with `$`, or
-/// else a document that replaces another, whatever its names.
+/// The update that the value is, under the name `u`: operators with their fields, where its first
+/// name begins with `$`, or else a document that replaces another, whatever its names.
 ///
-/// Otherwise the first refusal is answered that is met in the order of the elements. `WrongKind` is that of `u` where the
-/// value is no document, that of the operator where its value is none, and that of the field where an amount of `$inc` is
-/// no number. `Missing` and `UnknownField` don't come.
+/// Otherwise the first refusal is answered that is met in the order of the elements. `WrongKind` is
+/// that of `u` where the value is no document, that of the operator where its value is none, and
+/// that of the field where an amount of `$inc` is no number. `Missing` and `UnknownField` don't
+/// come.
 ///
 /// It goes through the document once.
 pub fn read_update(alloc: Global, value: &Value) -> Result<Update, CrudErr>

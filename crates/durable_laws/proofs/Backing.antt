@@ -14,7 +14,13 @@ pub shard_whole : (s : ShardState) → IsShard s → IsWhole s.part s.clock.last
 shard_whole s h = part_is_whole s.part s.clock.last h.part h.stands h.reads h.apart
 
 pub backs_shard : (i : Image) (s : ShardState) → Backs i s → IsShard s
-backs_shard i s b = record { part = whole_is_part s.part s.clock.last b.whole; stands = b.whole.stands; reads = whole_reads s.part s.clock.last b.whole; apart = b.whole.apart; rises = b.rises }
+backs_shard i s b = record {
+  part = whole_is_part s.part s.clock.last b.whole;
+  stands = b.whole.stands;
+  reads = whole_reads s.part s.clock.last b.whole;
+  apart = b.whole.apart;
+  rises = b.rises;
+}
 
 pub to_backs : (recs : List Rec) (s : ShardState) → IsBacked recs s → Backs (image_of recs) s
 to_backs recs s b =
@@ -27,7 +33,10 @@ to_backs recs s b =
         boot = d.boot;
         store = d.store;
         pending = d.pending;
-        sessions = λ lsid recorded has. (one_of_each (HasSession s.part) i.sessions.entries d.sessions lsid recorded has, fine.never lsid recorded has);
+        sessions = λ lsid recorded has. (
+          one_of_each (HasSession s.part) i.sessions.entries d.sessions lsid recorded has,
+          fine.never lsid recorded has,
+        );
         recorded = b.recorded;
       };
       ceiling = d.ceiling;
@@ -47,7 +56,8 @@ from_backs recs s b =
         store = b.holds.store;
         pending = b.holds.pending;
         coord = b.plans;
-        sessions = each_session (HasSession s.part) i.sessions.entries fine.apart (λ lsid recorded has. (b.holds.sessions lsid recorded has).0);
+        sessions = each_session (HasSession s.part) i.sessions.entries fine.apart (λ lsid recorded
+            has. (b.holds.sessions lsid recorded has).0);
       };
       recorded = b.holds.recorded;
     }

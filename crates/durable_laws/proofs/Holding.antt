@@ -21,7 +21,8 @@ pub record HoldsPart (i : Image) (p : Part) : Type 0 where
   pub boot : i.boot ≡ p.boot
   pub store : i.store ≡ finished p.store
   pub pending : i.pending ≡ p.pending
-  pub sessions : (lsid : Lsid) (recorded : Session) → session_of i.sessions lsid ≡ Some recorded → HasSession p lsid recorded × (recorded.state ≡ state.Live → ⊥)
+  pub sessions : (lsid : Lsid) (recorded : Session) → session_of i.sessions lsid ≡ Some recorded
+      → HasSession p lsid recorded × (recorded.state ≡ state.Live → ⊥)
   pub recorded : AreRecorded i.sessions p
 
 -- behind a record, if there is one

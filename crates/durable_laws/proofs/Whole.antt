@@ -1,4 +1,5 @@
--- What holds of a shard's part, beside that each session has what its state says: by place and by transaction.
+-- What holds of a shard's part, beside that each session has what its state says: by place and by
+-- transaction.
 use Rattle.std.specs.Prelude.{◌≡◌, ◌≤◌, ◌<◌, ℕ, true, map, List, [], ◌∷◌, Some, is_some, unwrap_or}
 use Rattle.std.specs.List.{list_any}
 use Rattle.txn_types.specs.Order.{same_tag, lsid_cmp}
@@ -12,7 +13,8 @@ use Rattle.version_store.specs.declared.version.Pending.{Pending}
 use Rattle.version_store.specs.declared.version.Stamp.{Stamp}
 use Rattle.version_store.specs.declared.version.Stamp.TheVariants.{Unfinished, Prepared}
 use Rattle.version_store.specs.declared.version.Version.{Version}
-use Rattle.version_store.specs.Versions.{Versions, versions_of, has_versions, is_of, newest_of, keys_of, StandsBefore}
+use Rattle.version_store.specs.Versions.{Versions, versions_of, has_versions, is_of, newest_of}
+use Rattle.version_store.specs.Versions.{keys_of, StandsBefore}
 use Rattle.participant.specs.declared.said.Open.{Open}
 use Rattle.participant.specs.Part.{Part, session, open_of}
 use Rattle.participant.specs.Stands.{Stands}
@@ -42,19 +44,21 @@ HasStamp tag stamp version = is_of tag version ≡ true → version.stamp ≡ st
 -- the transaction's versions have this stamp, and stand over commits at or below this moment
 pub record IsOver (store : Versions) (tag : Tag) (stamp : Stamp) (moment : ℕ) : Type 0 where
   pub stamps : (place : Place) → Each (HasStamp tag stamp) (versions_of store place)
-  pub behind : (place : Place) → is_some (own_at tag (versions_of store place)) ≡ true → newest_commit (versions_of store place) ≤ moment
+  pub behind : (place : Place) → is_some (own_at tag (versions_of store place)) ≡ true
+      → newest_commit (versions_of store place) ≤ moment
 
 -- A part.
 
--- a live transaction: it reads at or below the clock; its versions are its writes, one for each document, over commits at
--- or below what it reads at
+-- a live transaction: it reads at or below the clock; its versions are its writes, one for each
+-- document, over commits at or below what it reads at
 pub record LiveHas (store : Versions) (last : ℕ) (o : Open) : Type 0 where
   pub reads : o.read_at ≤ last
   pub rises : Rises place_cmp (map placed o.writes)
   pub own : (place : Place) → own_at o.tag (versions_of store place) ≡ wrote_at place o.writes
   pub over : IsOver store o.tag (Unfinished o.tag) o.read_at
 
--- a prepared transaction: its session has it, prepared at a time above what it reads at, and its versions are so
+-- a prepared transaction: its session has it, prepared at a time above what it reads at, and its
+-- versions are so
 pub record PendingHas (p : Part) (q : Pending) : Type 0 where
   pub s : Session
   pub at : ℕ
@@ -75,5 +79,7 @@ pub record IsWhole (p : Part) (last : ℕ) : Type 0 where
   pub lives : Rises lsid_cmp p.live
   pub live : (lsid : Lsid) (o : Open) → open_of p lsid ≡ Some o → LiveHas p.store last o
   pub pending : Each (PendingHas p) p.pending
-  pub prepared : (lsid : Lsid) (s : Session) (at coordinator : ℕ) → session p lsid ≡ Some s → s.state ≡ state.Prepared at coordinator → list_any (λ q. same_tag q.tag s.tag) p.pending ≡ true
+  pub prepared : (lsid : Lsid) (s : Session) (at coordinator : ℕ)
+      → session p lsid ≡ Some s → s.state ≡ state.Prepared at coordinator
+      → list_any (λ q. same_tag q.tag s.tag) p.pending ≡ true
   pub apart : AreApart p.sessions.entries

@@ -1,5 +1,6 @@
 -- A shard's state that its records hold.
-use Rattle.std.specs.Prelude.{◌≡◌, ◌⊎◌, ◌≤◌, ◌+◌, Bool, true, false, List, [], ◌∷◌, ◌++◌, Some, None, All, unwrap_or}
+use Rattle.std.specs.Prelude.{◌≡◌, ◌⊎◌, ◌≤◌, ◌+◌, Bool, true, false, List, [], ◌∷◌, ◌++◌, Some}
+use Rattle.std.specs.Prelude.{None, All, unwrap_or}
 use Rattle.std.proofs.Common.{inl, inr}
 use Rattle.txn_types.specs.BySession.{BySession}
 use Rattle.txn_types.specs.Order.{same_lsid, tag_cmp}
@@ -26,10 +27,11 @@ use Rattle.shard_core.specs.Durable.{plans_of, HasSession, AreRecordsOf}
 -- no session stands twice
 abbrev pub AreApart : BySession Session → Type 0
 AreApart [] = Unit {0}
-AreApart (entry ∷ entries) = Each (λ other. same_lsid entry.0 other.0 ≡ false) entries × AreApart entries
+AreApart (entry ∷ entries) = Each (λ other. same_lsid entry.0 other.0 ≡ false) entries
+    × AreApart entries
 
--- the part is of one piece and each of its sessions has what its state says; a live transaction reads at or below the
--- clock's last time; and what is coordinated stands by tag
+-- the part is of one piece and each of its sessions has what its state says; a live transaction
+-- reads at or below the clock's last time; and what is coordinated stands by tag
 pub record IsShard (s : ShardState) : Type 0 where
   pub part : IsPart s.part
   pub stands : Stands s.part
@@ -47,7 +49,8 @@ is_recorded (state.Aborted why read_at) = false
 
 -- each prepared or committed transaction of a session stands in this table as it does here
 abbrev pub AreRecorded : Table → Part → Type 0
-AreRecorded table p = (lsid : Lsid) (s : Session) → session p lsid ≡ Some s → is_recorded s.state ≡ true → session_of table lsid ≡ Some s
+AreRecorded table p = (lsid : Lsid) (s : Session) → session p lsid ≡ Some s
+    → is_recorded s.state ≡ true → session_of table lsid ≡ Some s
 
 -- and the records hold it
 pub record IsBacked (recs : List Rec) (s : ShardState) : Type 0 where
@@ -59,21 +62,25 @@ pub record IsBacked (recs : List Rec) (s : ShardState) : Type 0 where
 
 -- the state with the ceiling of a step
 abbrev pub at_ceiling : ShardState → CoreStep → ShardState
-at_ceiling s o = record s { clock = record { last = s.clock.last; ceiling = unwrap_or o.ceiling s.clock.ceiling } }
+at_ceiling s o = record s
+    { clock = record { last = s.clock.last; ceiling = unwrap_or o.ceiling s.clock.ceiling } }
 
--- what the appends before the one that failed hold: the state before the step, or with the step's ceiling
+-- what the appends before the one that failed hold: the state before the step, or with the step's
+-- ceiling
 abbrev pub kept_state : ShardState → CoreStep → List (List Rec) → ShardState
 kept_state s o [] = s
 kept_state s o (kept ∷ more) = at_ceiling s o
 
--- what they hold with the one that failed: the state behind the step, or with its ceiling where a record was to follow
+-- what they hold with the one that failed: the state behind the step, or with its ceiling where a
+-- record was to follow
 abbrev pub lost_state : ShardState → CoreStep → List (List Rec) → ShardState
 lost_state s o [] = o.core
 lost_state s o (next ∷ more) = at_ceiling s o
 
 -- Where a shard starts again.
 
--- the new state has what outlives a stop of the old one, is of the next boot, and its clock stands at the last ceiling
+-- the new state has what outlives a stop of the old one, is of the next boot, and its clock stands
+-- at the last ceiling
 pub record IsFoundAgain (old new : ShardState) : Type 0 where
   pub boot : new.part.boot ≡ old.part.boot + 1
   pub clock : new.clock ≡ record { last = old.clock.ceiling; ceiling = old.clock.ceiling }
@@ -87,8 +94,9 @@ pub record IsFoundAgain (old new : ShardState) : Type 0 where
 
 -- Nodes.
 
--- the shard is of one piece; where it runs, its records hold it and nothing is in hand; what its records hold, and what
--- they hold with those in hand, is of one piece too; and the writes of each record rise
+-- the shard is of one piece; where it runs, its records hold it and nothing is in hand; what its
+-- records hold, and what they hold with those in hand, is of one piece too; and the writes of each
+-- record rise
 pub record IsDurableNode (n : NodeState) : Type 0 where
   pub shard : IsShard n.core
   pub running : n.core.stopped ≡ None → IsBacked n.records n.core × (n.hand ≡ [])
@@ -100,9 +108,10 @@ pub record IsDurableNode (n : NodeState) : Type 0 where
 abbrev pub IsLeft : NodeState → List Rec → Type 0
 IsLeft n recs = (recs ≡ n.records) ⊎ (recs ≡ n.records ++ n.hand)
 
--- the state that these records hold behind a step of a node that ran: the state behind the step; or, where an append
--- failed, what the appends before it hold, or what they hold with it
-abbrev pub left_state : (old : NodeState) (o : CoreStep) (a : NodeAnswer) (new : NodeState) (recs : List Rec) → Appended old o a new ⊎ Failed old o a new → IsLeft new recs → ShardState
+-- the state that these records hold behind a step of a node that ran: the state behind the step;
+-- or, where an append failed, what the appends before it hold, or what they hold with it
+abbrev pub left_state : (old : NodeState) (o : CoreStep) (a : NodeAnswer) (new : NodeState)
+    (recs : List Rec) → Appended old o a new ⊎ Failed old o a new → IsLeft new recs → ShardState
 left_state old o a new recs (inl done) left = o.core
 left_state old o a new recs (inr failed) (inl is) = kept_state old.core o failed.kept
 left_state old o a new recs (inr failed) (inr is) = lost_state old.core o failed.rest

@@ -1,4 +1,5 @@
-//! Laws of a shard: what its journal's records hold of it stays so behind each step, and a start from them finds it again.
+//! Laws of a shard: what its journal's records hold of it stays so behind each step, and a start
+//! from them finds it again.
 #![tactic(auto)]
 
 pub mod laws;

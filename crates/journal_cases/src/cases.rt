@@ -3,8 +3,8 @@ use std::alloc::{AllocError, Global};
 
 /// A file of cases that is run: how many there were, the number of the line, and what stands.
 ///
-/// A line is a comment, which begins with `#`, or one of these, whose bytes are in hexadecimal digits
-/// with spaces among them:
+/// A line is a comment, which begins with `#`, or one of these, whose bytes are in hexadecimal
+/// digits with spaces among them:
 ///
 /// - `room N`: the next disks have room for so many bytes.
 /// - `calls N`: the next disk passes so many calls, and then stops.
@@ -12,7 +12,8 @@ use std::alloc::{AllocError, Global};
 /// - `start -> ok`, `start -> byte N` or `start -> disk fault`: what a start on it answers.
 /// - `append BYTES -> ok`, or `disk fault`, or `closed`.
 /// - `append and start BYTES -> ..`: the same, and then a start, whose answer is told.
-/// - `count -> N`, `end -> N`, and `payloads -> none` or `payloads -> BYTES BYTES ..`, where `.` is a
+/// - `count -> N`, `end -> N`, and `payloads -> none` or `payloads -> BYTES BYTES ..`, where `.` is
+///   a
 ///   payload without bytes.
 /// - `file -> BYTES` or `file -> none`: what the disk holds. The journal is put away, and its disk
 ///   stops no more.

@@ -1,7 +1,8 @@
 -- A journal's file: 16 bytes of header, then frames, then an end gate. A frame is a gate byte A5,
 -- which is 165, the length of its payload in four bytes, low first, and the payload. Any other gate
 -- byte is the end.
-use Rattle.std.specs.Prelude.{ℕ, zero, suc, ◌+◌, ◌<◌, ◌^◌, ◌==◌, List, [], ◌∷◌, ◌++◌, length, take, drop, Result, Ok, Err, codes, if◌then◌else◌, nat_lt}
+use Rattle.std.specs.Prelude.{ℕ, zero, suc, ◌+◌, ◌<◌, ◌^◌, ◌==◌, List, [], ◌∷◌, ◌++◌, length, take}
+use Rattle.std.specs.Prelude.{drop, Result, Ok, Err, codes, if◌then◌else◌, nat_lt}
 use Rattle.std.specs.Int.{w32, to_le_bytes, from_le_bytes}
 
 abbrev pub header : List ℕ

@@ -1,5 +1,6 @@
 -- A journal, as contracts see it.
-use Rattle.std.specs.Prelude.{◌≡◌, ◌<◌, ◌≤◌, ◌+◌, ◌^◌, ℕ, Bool, false, IsTrue, List, Result, Ok, Err}
+use Rattle.std.specs.Prelude.{◌≡◌, ◌<◌, ◌≤◌, ◌+◌, ◌^◌, ℕ, Bool, false, IsTrue, List, Result, Ok}
+use Rattle.std.specs.Prelude.{Err}
 use Rattle.journal_core.specs.declared.error.JournalErr.{JournalErr}
 use Rattle.journal_core.specs.Frames.{frames_on}
 use Rattle.journal_core.specs.Left.{IsAtRest}
@@ -16,7 +17,8 @@ pub record JournalState (D : Type 0) : Type 0 where
 
 -- What holds of every journal: its numbers fit, and while it is open its disk is at rest, where it
 -- tells.
-pub record IsSound (tells : Bool) (seen : List ℕ) (may_leave : List ℕ → Type 0) (count end : ℕ) (closed : Bool) : Type 0 where
+pub record IsSound (tells : Bool) (seen : List ℕ) (may_leave : List ℕ → Type 0) (count end : ℕ)
+    (closed : Bool) : Type 0 where
   pub room : end + 1 < 2 ^ 64
   pub few : count ≤ end
   pub rests : IsTrue tells → closed ≡ false → IsAtRest seen may_leave (frames_on seen) count end

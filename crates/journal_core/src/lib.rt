@@ -1,5 +1,6 @@
-//! A journal: a list of payloads on a disk, each acknowledged only once it is there for good. A crash
-//! at any moment leaves the acknowledged ones, or these with the one in hand, and nothing else.
+//! A journal: a list of payloads on a disk, each acknowledged only once it is there for good. A
+//! crash at any moment leaves the acknowledged ones, or these with the one in hand, and nothing
+//! else.
 #![tactic(auto)]
 
 mod append;

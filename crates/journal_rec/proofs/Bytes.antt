@@ -22,7 +22,8 @@ pub length_flag : (b : Bool) → length (coded (variants.Bool b)).1 ≡ 1
 unfolding views.roll-Value denote.Hole.Carrier.roll
 length_flag b = ap (λ (c : Coded). length c.1) (fold-roll-Value Coded coded_step (of.Bool b))
 
-pub length_id_document : (id : Id) → length (spelling (id_document id)) ≡ length (coded (value_of_id id)).1 + 10
+pub length_id_document : (id : Id)
+    → length (spelling (id_document id)) ≡ length (coded (value_of_id id)).1 + 10
 length_id_document id = length_framed (elements (id_document id)) ∙ grind (arith, common_steps)
 
 pub ruleset length_value = (length_long, length_date, length_flag)

@@ -11,8 +11,15 @@ one_at_least (Delete ns id) = omega arith
 
 pub count_fits : (writes : List Write) → length writes ≤ length (each_write_bytes writes)
 count_fits [] = omega arith
-count_fits (write ∷ writes) = omega (arith, length-append (write_bytes write) (each_write_bytes writes), one_at_least write, count_fits writes)
+count_fits (write ∷ writes) = omega (
+  arith,
+  length-append (write_bytes write) (each_write_bytes writes),
+  one_at_least write,
+  count_fits writes,
+)
 
-pub volume_fits : (writes : List Write) → volume writes ≤ 2147483647 → length (each_write_bytes writes) + 4 ≤ 2147483647
+pub volume_fits : (writes : List Write) → volume writes ≤ 2147483647
+    → length (each_write_bytes writes) + 4 ≤ 2147483647
 unfolding volume
-volume_fits writes h = omega (arith, length-append (to_le_bytes w32 (length writes)) (each_write_bytes writes), h)
+volume_fits writes h =
+    omega (arith, length-append (to_le_bytes w32 (length writes)) (each_write_bytes writes), h)

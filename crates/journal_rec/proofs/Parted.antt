@@ -11,6 +11,7 @@ parted (rec.Commit tag lsid number read_at at writes) = refl
 parted (rec.Prepared tag lsid number boot read_at at coordinator writes) = refl
 parted (rec.Decided d) = sym (append-nil (front_bytes (rec.Decided d)))
 parted (rec.CoordStart tag lsid number parts) = refl
-parted (rec.CoordDecision tag decision) = sym (append-nil (front_bytes (rec.CoordDecision tag decision)))
+parted (rec.CoordDecision tag decision) =
+    sym (append-nil (front_bytes (rec.CoordDecision tag decision)))
 parted (rec.CoordEnd tag) = sym (append-nil (front_bytes (rec.CoordEnd tag)))
 parted (rec.Floor floor) = sym (append-nil (front_bytes (rec.Floor floor)))

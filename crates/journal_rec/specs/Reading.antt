@@ -1,6 +1,9 @@
--- Reading a record front to back, as functions on lists: a field and the bytes behind it, or the first fault, with its
--- place. `end` is how many bytes the record has, so the bytes that are left begin at the place `end - length bytes`.
-use Rattle.std.specs.Prelude.{ℕ, ℤ, zero, suc, ◌+◌, ◌-◌, ◌==◌, ◌&&◌, Bool, true, false, not, List, [], ◌∷◌, ◌++◌, length, take, drop, position, nat_lt, slice_get, Option, Some, None, Result, Ok, Err, if◌then◌else◌}
+-- Reading a record front to back, as functions on lists: a field and the bytes behind it, or the
+-- first fault, with its place. `end` is how many bytes the record has, so the bytes that are left
+-- begin at the place `end - length bytes`.
+use Rattle.std.specs.Prelude.{ℕ, ℤ, zero, suc, ◌+◌, ◌-◌, ◌==◌, ◌&&◌, Bool, true, false, not, List}
+use Rattle.std.specs.Prelude.{[], ◌∷◌, ◌++◌, length, take, drop, position, nat_lt, slice_get}
+use Rattle.std.specs.Prelude.{Option, Some, None, Result, Ok, Err, if◌then◌else◌}
 use Rattle.std.specs.List.{position_or_len, before_first, after_first}
 use Rattle.std.specs.Int.{Width, w16, w32, w64, cast_signed}
 use Rattle.std.specs.Ordering.{is_lt}
@@ -26,7 +29,8 @@ use Rattle.txn_types.specs.declared.write.Write.TheVariants.{Put, Delete}
 use Rattle.txn_semantics.specs.Writes.{place_of, place_cmp}
 use Rattle.journal_rec.specs.Errors.{from_document}
 use Rattle.journal_rec.specs.declared.error.RecErr.{RecErr}
-use Rattle.journal_rec.specs.declared.error.RecErr.TheVariants.{Kind, Short, Extra, Field, Bson, Order}
+use Rattle.journal_rec.specs.declared.error.RecErr.TheVariants.{Kind, Short, Extra, Field, Bson}
+use Rattle.journal_rec.specs.declared.error.RecErr.TheVariants.{Order}
 use Rattle.journal_rec.specs.declared.record.Decided.{Decided}
 use Rattle.journal_rec.specs.declared.record.Rec.{Rec}
 use Rattle.journal_rec.specs.declared.record.Rec.TheVariants as rec
@@ -66,7 +70,8 @@ zeros_by at None rest = Ok rest
 zeros_by at (Some n) rest = Err (Field (at + n))
 
 unfoldable pub zeros_at : ℕ → ℕ → List ℕ → Result (List ℕ) RecErr
-zeros_at end n bytes = bytes_at n bytes >>= λ x. zeros_by (place end bytes) (position (λ b. not (b == 0)) x.0) x.1
+zeros_at end n bytes =
+    bytes_at n bytes >>= λ x. zeros_by (place end bytes) (position (λ b. not (b == 0)) x.0) x.1
 
 -- Fields.
 
@@ -92,7 +97,8 @@ own_at end bytes = do
 unfoldable pub lsid_at : ℕ → List ℕ → Found Lsid
 lsid_at end bytes = do
   kind ← byte_at bytes
-  if kind.0 == 0 then client_at kind.1 else (if kind.0 == 1 then own_at end kind.1 else Err (Field (place end bytes)))
+  if kind.0 == 0 then client_at kind.1
+      else (if kind.0 == 1 then own_at end kind.1 else Err (Field (place end bytes)))
 
 -- the transaction that a record is of
 abbrev pub Named : Type 0
@@ -122,7 +128,8 @@ abort_at end bytes = do
 unfoldable pub decision_at : ℕ → List ℕ → Found Decision
 decision_at end bytes = do
   kind ← byte_at bytes
-  if kind.0 == 1 then commit_at end kind.1 else (if kind.0 == 2 then abort_at end kind.1 else Err (Field (place end bytes)))
+  if kind.0 == 1 then commit_at end kind.1
+      else (if kind.0 == 2 then abort_at end kind.1 else Err (Field (place end bytes)))
 
 unfoldable pub part_at : List ℕ → Found (ℕ × ℕ)
 part_at bytes = do
@@ -141,7 +148,8 @@ parts_at (suc n) front bytes = part_at bytes >>= λ part. parts_at n (front ++ p
 abbrev pub is_namespace : List ℕ → Bool
 is_namespace bytes =
     is_utf8 bytes && nat_lt (position_or_len (λ b. b == 46) bytes) (length bytes)
-    && is_database (before_first (λ b. b == 46) bytes) && is_collection (after_first (λ b. b == 46) bytes)
+    && is_database (before_first (λ b. b == 46) bytes)
+    && is_collection (after_first (λ b. b == 46) bytes)
 
 -- a namespace; the fault of one that is none stands at its write's first byte
 unfoldable pub namespace_at : ℕ → List ℕ → Found (List ℕ)
@@ -160,7 +168,8 @@ document_at end bytes = do
   count ← number_of w32 bytes
   if nat_lt 2147483647 count.0 then Err (Bson (place end bytes)) else
       (if nat_lt (length bytes) count.0 then Err Short else
-      (as_record (place end bytes) (document_of 2147483647 (take count.0 bytes)) >>= λ doc. Ok (doc, drop count.0 bytes)))
+      (as_record (place end bytes) (document_of 2147483647 (take count.0 bytes))
+      >>= λ doc. Ok (doc, drop count.0 bytes)))
 
 -- the document is its id alone, and a number is an int64
 abbrev pub is_int : Value-F Value → Bool
@@ -172,10 +181,12 @@ is_id_alone [] = false
 is_id_alone (field ∷ []) = not (is_int (out-Value field.1))
 is_id_alone (field ∷ other ∷ fields) = false
 
--- the write of a document: a 1 puts it, a 0 deletes what has its id; the document's fault stands at its first byte
+-- the write of a document: a 1 puts it, a 0 deletes what has its id; the document's fault stands at
+-- its first byte
 abbrev pub write_by : ℕ → List ℕ → ℕ → Document → Option Id → Result Write RecErr
 write_by at ns kind doc None = Err (Field at)
-write_by at ns kind doc (Some id) = if kind == 1 then Ok (Put ns id doc) else (if is_id_alone doc then Ok (Delete ns id) else Err (Field at))
+write_by at ns kind doc (Some id) = if kind == 1 then Ok (Put ns id doc)
+    else (if is_id_alone doc then Ok (Delete ns id) else Err (Field at))
 
 unfoldable pub content_at : ℕ → List ℕ → ℕ → List ℕ → Found Write
 content_at end ns kind bytes = do
@@ -197,16 +208,19 @@ is_above (Some last) write = is_lt (place_cmp (place_of last) (place_of write))
 abbrev pub last_of : List Write → Option Write
 last_of writes = slice_get writes (length writes - 1)
 
--- one write more behind those in front; the fault of one that isn't above the last stands at its first byte
+-- one write more behind those in front; the fault of one that isn't above the last stands at its
+-- first byte
 unfoldable pub next_write_at : ℕ → List Write → List ℕ → Found (List Write)
 next_write_at end front bytes = do
   write ← write_at end bytes
-  if is_above (last_of front) write.0 then Ok (front ++ write.0 ∷ [], write.1) else Err (Order (place end bytes))
+  if is_above (last_of front) write.0 then Ok (front ++ write.0 ∷ [], write.1)
+      else Err (Order (place end bytes))
 
 -- so many writes more
 unfoldable pub each_write_at : ℕ → ℕ → List Write → List ℕ → Found (List Write)
 each_write_at zero end front bytes = Ok (front, bytes)
-each_write_at (suc n) end front bytes = next_write_at end front bytes >>= λ x. each_write_at n end x.0 x.1
+each_write_at (suc n) end front bytes =
+    next_write_at end front bytes >>= λ x. each_write_at n end x.0 x.1
 
 unfoldable pub writes_at : ℕ → List ℕ → Found (List Write)
 writes_at end bytes = number_of w32 bytes >>= λ count. each_write_at count.0 end [] count.1
@@ -252,7 +266,11 @@ decided_at end bytes = do
   named ← named_at end bytes
   decision ← decision_at end named.1
   rest ← zeros_at end 12 decision.1
-  Ok (rec.Decided (record { tag = named.0.0; lsid = named.0.1; number = named.0.2; decision = decision.0 }), rest)
+  Ok (
+    rec.Decided
+        (record { tag = named.0.0; lsid = named.0.1; number = named.0.2; decision = decision.0 }),
+    rest,
+  )
 
 unfoldable pub coord_start_at : ℕ → List ℕ → Found Rec
 coord_start_at end bytes = do

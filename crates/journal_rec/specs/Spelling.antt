@@ -19,7 +19,8 @@ tag_bytes tag = to_le_bytes w16 tag.router ++ to_le_bytes w32 tag.boot ++ to_le_
 unfoldable pub own_bytes : ℕ → ℕ → ℕ → List ℕ
 own_bytes router boot conn = to_le_bytes w16 router ++ to_le_bytes w32 boot ++ to_le_bytes w32 conn
 
--- a 0 and the 16 bytes of a client's session; or a 1, the numbers of an own one, and 6 zeros: 17 bytes
+-- a 0 and the 16 bytes of a client's session; or a 1, the numbers of an own one, and 6 zeros: 17
+-- bytes
 unfoldable pub lsid_bytes : Lsid → List ℕ
 lsid_bytes (Client bytes) = 0 ∷ bytes
 lsid_bytes (Own router boot conn) = 1 ∷ own_bytes router boot conn ++ 0 ∷ 0 ∷ 0 ∷ 0 ∷ 0 ∷ 0 ∷ []
@@ -31,10 +32,12 @@ number_bytes number = to_le_bytes w64 (cast_unsigned w64 number)
 abbrev pub named_bytes : Tag → Lsid → ℤ → List ℕ
 named_bytes tag lsid number = tag_bytes tag ++ lsid_bytes lsid ++ number_bytes number
 
--- a 1, the time and three zeros; or a 2, eight zeros, the shard and the number of the cause: 12 bytes
+-- a 1, the time and three zeros; or a 2, eight zeros, the shard and the number of the cause: 12
+-- bytes
 unfoldable pub decision_bytes : Decision → List ℕ
 decision_bytes (decision.Commit at) = 1 ∷ to_le_bytes w64 at ++ 0 ∷ 0 ∷ 0 ∷ []
-decision_bytes (decision.Abort shard code) = 2 ∷ 0 ∷ 0 ∷ 0 ∷ 0 ∷ 0 ∷ 0 ∷ 0 ∷ 0 ∷ to_le_bytes w16 shard ++ code ∷ []
+decision_bytes (decision.Abort shard code) =
+    2 ∷ 0 ∷ 0 ∷ 0 ∷ 0 ∷ 0 ∷ 0 ∷ 0 ∷ 0 ∷ to_le_bytes w16 shard ++ code ∷ []
 
 -- a shard and its boot: 6 bytes
 unfoldable pub part_bytes : ℕ × ℕ → List ℕ
@@ -49,7 +52,8 @@ time_bytes at = to_le_bytes w64 at
 
 -- boot, read timestamp, prepare timestamp and coordinator of a prepared transaction
 abbrev pub preparing_bytes : ℕ → ℕ → ℕ → ℕ → List ℕ
-preparing_bytes boot read_at at coordinator = to_le_bytes w32 boot ++ time_bytes read_at ++ time_bytes at ++ to_le_bytes w16 coordinator
+preparing_bytes boot read_at at coordinator =
+    to_le_bytes w32 boot ++ time_bytes read_at ++ time_bytes at ++ to_le_bytes w16 coordinator
 
 -- filled up with zeros to 64 bytes
 abbrev pub twelve_zeros : List ℕ
@@ -62,16 +66,20 @@ decided_bytes d = 5 ∷ named_bytes d.tag d.lsid d.number ++ decision_bytes d.de
 abbrev pub record_bytes : Rec → List ℕ
 record_bytes (rec.Boot boot) = 1 ∷ to_le_bytes w32 boot
 record_bytes (rec.Ceiling bound) = 2 ∷ time_bytes bound
-record_bytes (rec.Commit tag lsid number read_at at writes) = 3 ∷ named_bytes tag lsid number ++ (time_bytes read_at ++ time_bytes at) ++ writes_bytes writes
+record_bytes (rec.Commit tag lsid number read_at at writes) =
+    3 ∷ named_bytes tag lsid number ++ (time_bytes read_at ++ time_bytes at) ++ writes_bytes writes
 record_bytes (rec.Prepared tag lsid number boot read_at at coordinator writes) =
-    4 ∷ named_bytes tag lsid number ++ preparing_bytes boot read_at at coordinator ++ writes_bytes writes
+    4 ∷ named_bytes tag lsid number ++ preparing_bytes boot read_at at coordinator
+    ++ writes_bytes writes
 record_bytes (rec.Decided d) = decided_bytes d
-record_bytes (rec.CoordStart tag lsid number parts) = 6 ∷ named_bytes tag lsid number ++ (to_le_bytes w16 (length parts) ++ each_part_bytes parts)
+record_bytes (rec.CoordStart tag lsid number parts) =
+    6 ∷ named_bytes tag lsid number ++ (to_le_bytes w16 (length parts) ++ each_part_bytes parts)
 record_bytes (rec.CoordDecision tag decision) = 7 ∷ tag_bytes tag ++ decision_bytes decision
 record_bytes (rec.CoordEnd tag) = 8 ∷ tag_bytes tag
 record_bytes (rec.Floor floor) = 9 ∷ time_bytes floor
 
--- A record's bytes in two parts: what stands in front, at most 64 bytes, and the writes or the participants behind it.
+-- A record's bytes in two parts: what stands in front, at most 64 bytes, and the writes or the
+-- participants behind it.
 
 abbrev pub parts_bytes : List (ℕ × ℕ) → List ℕ
 parts_bytes parts = to_le_bytes w16 (length parts) ++ each_part_bytes parts
@@ -79,8 +87,10 @@ parts_bytes parts = to_le_bytes w16 (length parts) ++ each_part_bytes parts
 abbrev pub front_bytes : Rec → List ℕ
 front_bytes (rec.Boot boot) = 1 ∷ to_le_bytes w32 boot
 front_bytes (rec.Ceiling bound) = 2 ∷ time_bytes bound
-front_bytes (rec.Commit tag lsid number read_at at writes) = 3 ∷ named_bytes tag lsid number ++ (time_bytes read_at ++ time_bytes at)
-front_bytes (rec.Prepared tag lsid number boot read_at at coordinator writes) = 4 ∷ named_bytes tag lsid number ++ preparing_bytes boot read_at at coordinator
+front_bytes (rec.Commit tag lsid number read_at at writes) =
+    3 ∷ named_bytes tag lsid number ++ (time_bytes read_at ++ time_bytes at)
+front_bytes (rec.Prepared tag lsid number boot read_at at coordinator writes) =
+    4 ∷ named_bytes tag lsid number ++ preparing_bytes boot read_at at coordinator
 front_bytes (rec.Decided d) = decided_bytes d
 front_bytes (rec.CoordStart tag lsid number parts) = 6 ∷ named_bytes tag lsid number
 front_bytes (rec.CoordDecision tag decision) = 7 ∷ tag_bytes tag ++ decision_bytes decision

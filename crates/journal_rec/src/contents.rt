@@ -19,7 +19,8 @@ const MOST: u32 = 0x7fff_ffff;
 
 /// The bytes as text.
 fn text_in(bytes: &[u8]) -> Option<&str>
-    ensures { MatchOption result (is_utf8 bytes.now ≡ false) (λ s. (is_utf8 bytes.now ≡ true) × (s.now ≡ bytes.now)) }
+    ensures { MatchOption result (is_utf8 bytes.now ≡ false)
+        (λ s. (is_utf8 bytes.now ≡ true) × (s.now ≡ bytes.now)) }
 {
     match str::from_utf8(bytes) {
         Ok(text) => Some(text),

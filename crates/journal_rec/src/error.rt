@@ -12,9 +12,9 @@ pub enum RecErr {
     Short,
     /// Behind the record, from there on, bytes are left.
     Extra { at: u64 },
-    /// The byte there is none that the field may have; or a write begins there whose namespace is none, or a document
-    /// that a write can't have: without an `_id` that is an id, or of a deleted document and more than its id, with a
-    /// number as an int64.
+    /// The byte there is none that the field may have; or a write begins there whose namespace is
+    /// none, or a document that a write can't have: without an `_id` that is an id, or of a deleted
+    /// document and more than its id, with a number as an int64.
     Field { at: u64 },
     /// What begins there is no document in BSON.
     Bson { at: u64 },

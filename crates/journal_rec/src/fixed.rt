@@ -153,7 +153,8 @@ fn end_with_boot(out: &mut [u8; 64], boot: u32)
 
 /// The last 56 of 64 bytes.
 fn end_with_commit(out: &mut [u8; 64], tag: Tag, lsid: &Lsid, number: i64, read_at: Ts, at: Ts)
-    ensures { drop 8 out.new ≡ 3 ∷ named_bytes tag lsid.now number ++ (time_bytes read_at ++ time_bytes at) }
+    ensures { drop 8 out.new
+        ≡ 3 ∷ named_bytes tag lsid.now number ++ (time_bytes read_at ++ time_bytes at) }
 {
     let named = put_kind(out, 8, 3);
     let times = put_named(out, named, tag, lsid, number);
@@ -172,7 +173,8 @@ fn put_preparing(
 ) -> usize
     requires { place + 22 ≤ length out.old }
     ensures place { result ≡ place + 22 }
-    ensures front { take result out.new ≡ take place out.old ++ preparing_bytes boot read_at at coordinator }
+    ensures front { take result out.new
+        ≡ take place out.old ++ preparing_bytes boot read_at at coordinator }
 {
     let times = put(out, place, &boot.to_le_bytes());
     let second = put_time(out, times, read_at);
@@ -191,7 +193,8 @@ fn end_with_prepared(
     at: Ts,
     coordinator: u16,
 )
-    ensures { drop 2 out.new ≡ 4 ∷ named_bytes tag lsid.now number ++ preparing_bytes boot read_at at coordinator }
+    ensures { drop 2 out.new
+        ≡ 4 ∷ named_bytes tag lsid.now number ++ preparing_bytes boot read_at at coordinator }
 {
     let named = put_kind(out, 2, 4);
     let preparing = put_named(out, named, tag, lsid, number);
@@ -223,8 +226,8 @@ fn end_with_start(out: &mut [u8; 64], tag: Tag, lsid: &Lsid, number: i64)
     put_named(out, at, tag, lsid, number);
 }
 
-/// Writes what stands in front of a record's writes or participants, or the whole of a record without any, at the end of
-/// these bytes, and gives the place where it begins. It takes no memory.
+/// Writes what stands in front of a record's writes or participants, or the whole of a record
+/// without any, at the end of these bytes, and gives the place where it begins. It takes no memory.
 pub fn write_front(rec: &Rec, out: &mut [u8; 64]) -> usize
     ensures place { result ≤ 64 }
     ensures front { drop result out.new ≡ front_bytes rec.now }

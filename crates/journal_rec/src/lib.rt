@@ -1,4 +1,5 @@
-//! The records of a journal, their bytes, which of them can follow which, and how many bytes their writes have.
+//! The records of a journal, their bytes, which of them can follow which, and how many bytes their
+//! writes have.
 #![tactic(auto)]
 
 mod contents;

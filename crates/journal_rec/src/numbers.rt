@@ -1,4 +1,5 @@
-//! Numbers and bytes at the front of what is left of a record. Each reader gives what it found and the bytes behind it.
+//! Numbers and bytes at the front of what is left of a record. Each reader gives what it found and
+//! the bytes behind it.
 ghost use Rattle.std.specs.Prelude.{◌≡◌, ◌==◌, not, position, ◌<◌, ◌≤◌, length, IfOk, IfSome};
 ghost use Rattle.std.specs.Int.{w16, w32, w64};
 ghost use Rattle.journal_rec.specs.Errors.{Gives};

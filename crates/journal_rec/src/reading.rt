@@ -160,8 +160,9 @@ fn read_fields(alloc: Global, kind: u8, end: u64, bytes: &[u8]) -> Result<(Rec, 
     }
 }
 
-/// Reads one record, which is all of the bytes. Otherwise the first fault is answered that is met front to back, field by
-/// field: `Kind`, `Short`, `Field`, `Bson` and `Order` where they are met, `Extra` at the end.
+/// Reads one record, which is all of the bytes. Otherwise the first fault is answered that is met
+/// front to back, field by field: `Kind`, `Short`, `Field`, `Bson` and `Order` where they are met,
+/// `Extra` at the end.
 #[tactic(auto, unfolding(crate::specs::Reading::record_of))]
 pub fn decode(alloc: Global, bytes: &[u8]) -> Result<Rec, RecErr>
     ensures { Gives (λ r. r) result (record_of bytes.now) }

@@ -20,8 +20,8 @@ fn value_size(id: &Id) -> u64
     }
 }
 
-/// The bytes of the id as a document: beside its value a count of all bytes, the value's kind, the name and its 00, and
-/// a 00 at the end.
+/// The bytes of the id as a document: beside its value a count of all bytes, the value's kind, the
+/// name and its 00, and a 00 at the end.
 #[tactic(auto, using(crate::proofs::Bytes::length_id_document))]
 fn id_size(id: &Id) -> u64
     ensures { result ≡ min (length (spelling (id_document id.now))) (2 ^ 64 - 1) }
@@ -43,7 +43,8 @@ fn write_size(write: &Write) -> u64
     }
 }
 
-/// The bytes of the writes in a record, with the count in front of them; at most 2^64 - 1. It takes no memory.
+/// The bytes of the writes in a record, with the count in front of them; at most 2^64 - 1. It takes
+/// no memory.
 #[tactic(auto, unfolding(crate::specs::Volume::volume))]
 pub fn volume(writes: &[Write]) -> u64
     ensures { result ≡ volume writes.now }

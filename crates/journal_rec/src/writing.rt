@@ -15,8 +15,8 @@ use sqlite_items::Items;
 use std::alloc::{AllocError, Global};
 use txn_types::{Decision, Id, Lsid, Ns, Parts, Tag, Ts, Write};
 
-/// No writes have more bytes, since the count of a document is an int32 that isn't negative. Beyond it there is no memory
-/// for them.
+/// No writes have more bytes, since the count of a document is an int32 that isn't negative. Beyond
+/// it there is no memory for them.
 const MOST: u64 = 0x7fff_ffff;
 
 #[tactic(auto, unfolding(crate::specs::Spelling::time_bytes))]
@@ -79,7 +79,8 @@ fn put_document(alloc: Global, out: &mut Vec<u8>, doc: &Doc) -> Result<(), Alloc
 
 /// The length of a namespace, and its bytes.
 fn put_namespace(out: &mut Vec<u8>, ns: &Ns) -> Result<(), AllocError>
-    ensures { OnOk result (out.new.items ≡ out.old.items ++ to_le_bytes w16 (length ns.now) ++ ns.now) }
+    ensures { OnOk result
+        (out.new.items ≡ out.old.items ++ to_le_bytes w16 (length ns.now) ++ ns.now) }
 {
     let bytes = ns.as_slice();
     out.extend_from_slice(&(bytes.len() as u16).to_le_bytes())?;
@@ -148,7 +149,8 @@ fn put_front(
     lsid: &Lsid,
     number: i64,
 ) -> Result<(), AllocError>
-    ensures { OnOk result (out.new.items ≡ out.old.items ++ kind ∷ named_bytes tag lsid.now number) }
+    ensures { OnOk result
+        (out.new.items ≡ out.old.items ++ kind ∷ named_bytes tag lsid.now number) }
 {
     out.push(kind)?;
     out.extend_from_slice(&named_array(tag, lsid, number))
@@ -169,7 +171,8 @@ fn put_prepared(
     at: Ts,
     coordinator: u16,
 ) -> Result<(), AllocError>
-    ensures { OnOk result (out.new.items ≡ out.old.items ++ preparing_bytes boot read_at at coordinator) }
+    ensures { OnOk result
+        (out.new.items ≡ out.old.items ++ preparing_bytes boot read_at at coordinator) }
 {
     out.extend_from_slice(&boot.to_le_bytes())?;
     put_time(out, read_at)?;
@@ -186,7 +189,8 @@ fn put_decided(out: &mut Vec<u8>, decided: &Decided) -> Result<(), AllocError>
 }
 
 fn put_coord_start(out: &mut Vec<u8>, parts: &Parts) -> Result<(), AllocError>
-    ensures { OnOk result (out.new.items ≡ out.old.items ++ to_le_bytes w16 (length parts.now) ++ each_part_bytes parts.now) }
+    ensures { OnOk result (out.new.items ≡ out.old.items ++ to_le_bytes w16 (length parts.now)
+        ++ each_part_bytes parts.now) }
 {
     let parts = parts.as_slice();
     out.extend_from_slice(&(parts.len() as u16).to_le_bytes())?;
@@ -194,7 +198,8 @@ fn put_coord_start(out: &mut Vec<u8>, parts: &Parts) -> Result<(), AllocError>
 }
 
 fn put_coord_decision(out: &mut Vec<u8>, tag: Tag, decision: &Decision) -> Result<(), AllocError>
-    ensures { OnOk result (out.new.items ≡ out.old.items ++ 7 ∷ tag_bytes tag ++ decision_bytes decision.now) }
+    ensures { OnOk result
+        (out.new.items ≡ out.old.items ++ 7 ∷ tag_bytes tag ++ decision_bytes decision.now) }
 {
     out.push(7)?;
     out.extend_from_slice(&tag_array(tag))?;
@@ -256,8 +261,8 @@ fn put_record(alloc: Global, out: &mut Vec<u8>, rec: &Rec) -> Result<(), AllocEr
     }
 }
 
-/// Appends the bytes of writes, as they stand in a record. It is refused for want of memory alone, which is also the answer
-/// for writes of more than 2,147,483,647 bytes.
+/// Appends the bytes of writes, as they stand in a record. It is refused for want of memory alone,
+/// which is also the answer for writes of more than 2,147,483,647 bytes.
 pub fn encode_writes(alloc: Global, writes: &[Write], out: &mut Vec<u8>) -> Result<(), RecErr>
     ensures ok { OnOk result (out.new.items ≡ out.old.items ++ writes_bytes writes.now) }
     ensures memory { IfErr result (λ e. e ≡ RecErr.Memory) }
@@ -275,8 +280,8 @@ pub fn encode_parts(parts: &Parts, out: &mut Vec<u8>) -> Result<(), RecErr>
     Ok(())
 }
 
-/// Appends the record's bytes, in its one spelling. It is refused for want of memory alone, which is also the answer for
-/// writes of more than 2,147,483,647 bytes.
+/// Appends the record's bytes, in its one spelling. It is refused for want of memory alone, which
+/// is also the answer for writes of more than 2,147,483,647 bytes.
 pub fn encode(alloc: Global, rec: &Rec, out: &mut Vec<u8>) -> Result<(), RecErr>
     ensures ok { OnOk result (out.new.items ≡ out.old.items ++ record_bytes rec.now) }
     ensures unchanged { OnErr result (out.new.items ≡ out.old.items) }

@@ -95,8 +95,8 @@ impl<'a> Link for GateLink<'a> {
     }
 }
 
-/// What a connection makes of messages to the flag: byte 16 says whether it asks for the flag, 0, or sets it. It holds while
-/// the flag isn't set, and then opens the gate.
+/// What a connection makes of messages to the flag: byte 16 says whether it asks for the flag, 0,
+/// or sets it. It holds while the flag isn't set, and then opens the gate.
 #[derive(Drop)]
 pub struct Porter<'a> {
     pub alloc: Global,

@@ -1,5 +1,6 @@
-//! Tests of a node's lock and of the loop of its connections, with a machine of one flag: node_lock, node_server. They stand
-//! in a crate of their own, since a crate with tests is proved twice.
+//! Tests of a node's lock and of the loop of its connections, with a machine of one flag:
+//! node_lock, node_server. They stand in a crate of their own, since a crate with tests is proved
+//! twice.
 #![tactic(auto)]
 
 mod connections;

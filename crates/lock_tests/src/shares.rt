@@ -15,7 +15,8 @@ fn call_once<R: Wait>(rt: &R, lock: &NodeLock<Flag>, mut pass: Pass<Flag>, ask: 
     pass
 }
 
-/// Two threads make a call each, with passes that are cut off this one and met again; and then the length of the history.
+/// Two threads make a call each, with passes that are cut off this one and met again; and then the
+/// length of the history.
 pub fn two_calls<R: Threads + Wait + Sync>(
     rt: &R,
     lock: &NodeLock<Flag>,

@@ -16,8 +16,9 @@ fn message(alloc: Global, ask: u8) -> Result<Vec<u8>, AllocError> {
     Ok(bytes)
 }
 
-/// The first connection asks for the flag, and is held until the second sets it, whose peer sends only once the first was
-/// held. Served one behind the other, the second's gate would fail behind 1,000,000 turns.
+/// The first connection asks for the flag, and is held until the second sets it, whose peer sends
+/// only once the first was held. Served one behind the other, the second's gate would fail behind
+/// 1,000,000 turns.
 #[test]
 fn prepare_wait_small(rt: HostRuntime) -> Result<(), Fail> {
     let alloc = rt.alloc();
@@ -39,7 +40,8 @@ fn prepare_wait_small(rt: HostRuntime) -> Result<(), Fail> {
     Ok(())
 }
 
-/// A lock of three shares: two passes are cut off, each makes a call, both are met, and the history has two calls.
+/// A lock of three shares: two passes are cut off, each makes a call, both are met, and the history
+/// has two calls.
 #[test]
 fn passes_meet(rt: HostRuntime) -> Result<(), Fail> {
     let Ok((lock, mut pass)) = NodeLock::new(rt.alloc(), Flag::new(), 3) else {

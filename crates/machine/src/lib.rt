@@ -1,6 +1,6 @@
-//! A machine: a state that takes events one at a time, each with an answer. What a lock, a server or a
-//! log needs to know of a node. Its meaning is a relation, since an event may have more than one right
-//! answer: want of memory, or a disk that fails.
+//! A machine: a state that takes events one at a time, each with an answer. What a lock, a server
+//! or a log needs to know of a node. Its meaning is a relation, since an event may have more than
+//! one right answer: want of memory, or a disk that fails.
 #![tactic(auto)]
 
 ghost use Rattle.std.specs.Prelude.{◌≡◌, IfOk};

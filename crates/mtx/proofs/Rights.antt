@@ -6,4 +6,5 @@ use Rattle.play_run.proofs.Goods.{lines_good}
 use Rattle.mtx.specs.Play.{behind, RightThroughout}
 
 pub right_throughout : (asked : List Asked) → RightThroughout asked
-right_throughout asked = λ n within. good_is_right (behind n asked).server (lines_good (take n asked))
+right_throughout asked =
+    λ n within. good_is_right (behind n asked).server (lines_good (take n asked))

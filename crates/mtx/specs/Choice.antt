@@ -1,4 +1,5 @@
--- Which way a schedule is played: over one node, where all its lines are of clients; and else over a cluster.
+-- Which way a schedule is played: over one node, where all its lines are of clients; and else over
+-- a cluster.
 use Rattle.std.specs.Prelude.{◌≡◌, ◌⊎◌, ℕ, Bool, true, false, List, Option, codes, nat_eq}
 use Rattle.std.specs.List.{list_all, starts_with}
 use Rattle.outcomes.specs.Told.{WhereKnown}
@@ -29,22 +30,27 @@ pub record PlayedPlain (input : List ℕ) (held held' : Option (List ℕ)) (s : 
   pub text : WhereKnown held (λ before. WhereKnown held' (λ after. Wrote input before after s))
 
 -- of the lines over a cluster (`told`: its disks tell what they hold)
-pub record PlayedOver (told : Type 0) (lines : List (List ℕ)) (held held' : Option (List ℕ)) (s : Status) : Type 0 where
+pub record PlayedOver (told : Type 0) (lines : List (List ℕ)) (held held' : Option (List ℕ))
+    (s : Status) : Type 0 where
   pub ending : Ending
   pub status : s ≡ status_of ending
   pub ended : Ended told lines held held' ending
 
-abbrev pub PlayedBy : Bool → Type 0 → List ℕ → List (List ℕ) → Option (List ℕ) → Option (List ℕ) → Status → Type 0
+abbrev pub PlayedBy : Bool → Type 0 → List ℕ → List (List ℕ) → Option (List ℕ) → Option (List ℕ)
+    → Status → Type 0
 PlayedBy true told input lines held held' s = PlayedPlain input held held' s
 PlayedBy false told input lines held held' s = PlayedOver told lines held held' s
 
 -- what was read of the input was played, by one way or the other
-pub record PlayedAsRead (told : Type 0) (input : List ℕ) (held held' : Option (List ℕ)) (s : Status) : Type 0 where
+pub record PlayedAsRead (told : Type 0) (input : List ℕ) (held held' : Option (List ℕ))
+    (s : Status) : Type 0 where
   pub bytes : List ℕ
   pub end : End
   pub read : IsInput input bytes end
-  pub played : PlayedBy (has_clients_alone (lines_of bytes)) told input (lines_of (bytes_played bytes end)) held held' s
+  pub played : PlayedBy (has_clients_alone (lines_of bytes)) told input
+      (lines_of (bytes_played bytes end)) held held' s
 
 -- it was played; or it couldn't be read, and nothing was written
 abbrev pub IsPlayed : Type 0 → List ℕ → Option (List ℕ) → Option (List ℕ) → Status → Type 0
-IsPlayed told input held held' s = PlayedAsRead told input held held' s ⊎ (IsInterrupted s × (held' ≡ held))
+IsPlayed told input held held' s = PlayedAsRead told input held held' s
+    ⊎ (IsInterrupted s × (held' ≡ held))

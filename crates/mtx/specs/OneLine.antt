@@ -7,7 +7,8 @@ use Rattle.play_run.specs.Serving.{served, answer}
 use Rattle.play_run.specs.Standing.{desk_of, DeskStandsAt}
 
 -- the line was answered, and no more was written
-pub record AnsweredLine (line : List ℕ) (desk desk' : Desk) (held held' : Option (List ℕ)) : Type 0 where
+pub record AnsweredLine (line : List ℕ) (desk desk' : Desk)
+    (held held' : Option (List ℕ)) : Type 0 where
   pub asked : Asked
   pub asks : Asks line asked
   pub state : DeskStandsAt desk' (served (desk_of desk) asked)
@@ -15,4 +16,5 @@ pub record AnsweredLine (line : List ℕ) (desk desk' : Desk) (held held' : Opti
 
 -- nothing was written, or a front of the line's answer
 abbrev pub AnsweredInPart : List ℕ → Desk → Option (List ℕ) → Option (List ℕ) → Type 0
-AnsweredInPart line desk held held' = (held' ≡ held) ⊎ ((asked : Asked) × Asks line asked × WentInPart held held' (answer (desk_of desk) asked))
+AnsweredInPart line desk held held' = (held' ≡ held)
+    ⊎ ((asked : Asked) × Asks line asked × WentInPart held held' (answer (desk_of desk) asked))

@@ -1,6 +1,7 @@
--- What `play` does: it answers the lines of a schedule in their order, and its answers are those of one list of
--- commits.
-use Rattle.std.specs.Prelude.{◌≡◌, ℕ, ◌+◌, ◌≤◌, ◌<◌, ◌⊎◌, List, [], ◌∷◌, ◌++◌, length, take, Some, slice_get}
+-- What `play` does: it answers the lines of a schedule in their order, and its answers are those of
+-- one list of commits.
+use Rattle.std.specs.Prelude.{◌≡◌, ℕ, ◌+◌, ◌≤◌, ◌<◌, ◌⊎◌, List, [], ◌∷◌, ◌++◌, length, take, Some}
+use Rattle.std.specs.Prelude.{slice_get}
 use Rattle.play_script.specs.Limits.{most_lines}
 use Rattle.single_node.specs.Right.{AnswersRight}
 use Rattle.play_script.specs.Lines.{lines_of, Asked, Asks, IsBad}
@@ -48,7 +49,8 @@ pub record IsOverrun (input : List ℕ) : Type 0 where
 pub record Played (input before after : List ℕ) : Type 0 where
   pub asked : List Asked
   pub lines : AllAsk (lines_of input) asked
-  pub text : after ≡ before ++ answers first_state asked ++ dump (behind (length asked) asked).server.entries
+  pub text : after
+      ≡ before ++ answers first_state asked ++ dump (behind (length asked) asked).server.entries
   pub right : RightThroughout asked
 
 -- the replies to the first lines, so many of them, were written, and no more
@@ -58,11 +60,13 @@ pub record AnsweredFirst (n : ℕ) (input before after : List ℕ) : Type 0 wher
   pub text : after ≡ before ++ answers first_state asked
   pub right : RightThroughout asked
 
--- what was written is a front of what is written where nothing fails: of the replies to the first lines, or of the
--- replies to all and the list of commits
+-- what was written is a front of what is written where nothing fails: of the replies to the first
+-- lines, or of the replies to all and the list of commits
 pub record CutShort (input before after : List ℕ) : Type 0 where
   pub asked : List Asked
   pub lines : AllAsk (take (length asked) (lines_of input)) asked
   pub rest : List ℕ
-  pub text : (after ++ rest ≡ before ++ answers first_state asked) ⊎ ((length asked ≡ length (lines_of input)) × (after ++ rest ≡ before ++ answers first_state asked ++ dump (behind (length asked) asked).server.entries))
+  pub text : (after ++ rest ≡ before ++ answers first_state asked)
+      ⊎ ((length asked ≡ length (lines_of input)) × (after ++ rest
+      ≡ before ++ answers first_state asked ++ dump (behind (length asked) asked).server.entries))
   pub right : RightThroughout asked

@@ -8,7 +8,8 @@ use Rattle.play_run.specs.Standing.{DeskStandsAt}
 use Rattle.mtx.specs.Play.{AllAsk}
 
 -- all lines were answered, so many of them, and no more was written
-pub record PlayedAll (input : List ℕ) (lines : ℕ) (desk : Desk) (held held' : Option (List ℕ)) : Type 0 where
+pub record PlayedAll (input : List ℕ) (lines : ℕ) (desk : Desk)
+    (held held' : Option (List ℕ)) : Type 0 where
   pub asked : List Asked
   pub asks : AllAsk (lines_of input) asked
   pub count : lines ≡ length asked

@@ -1,4 +1,5 @@
--- How a status is told to whoever started the process; the numbers and words are this project's own.
+-- How a status is told to whoever started the process; the numbers and words are this project's
+-- own.
 use Rattle.std.specs.Prelude.{ℕ, List, ◌++◌, codes, decimal}
 use Rattle.cluster_play.specs.declared.status.Status.{Status as Ending}
 use Rattle.cluster_play.specs.declared.status.Status.TheVariants as ending

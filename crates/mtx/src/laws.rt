@@ -11,12 +11,15 @@ pub fn answers_are_right()
     ensures { (asked : List Asked) → RightThroughout asked }
 {}
 
-/// Where each line of a schedule asks something and no count of faults rose, the schedule was played to its end, or
-/// memory ran out. So it is for each status of which the clauses of `offline` hold.
+/// Where each line of a schedule asks something and no count of faults rose, the schedule was
+/// played to its end, or memory ran out. So it is for each status of which the clauses of `offline`
+/// hold.
 pub fn only_want_of_memory_is_left()
-    ensures { (input : List ℕ) (status : Status) (reads reads_now writes writes_now : ℕ) → IsPlayable input
+    ensures { (input : List ℕ) (status : Status) (reads reads_now writes writes_now : ℕ)
+        → IsPlayable input
         → ((s : Status) → Judges input s → (status ≡ s) ⊎ IsInterrupted status)
-        → (status ≡ ReadFault → Rose reads reads_now) → (status ≡ WriteFault → Rose writes writes_now)
+        → (status ≡ ReadFault → Rose reads reads_now)
+        → (status ≡ WriteFault → Rose writes writes_now)
         → (Rose reads reads_now → ⊥) → (Rose writes writes_now → ⊥)
         → (status ≡ Ok) ⊎ (status ≡ Memory) }
 {}

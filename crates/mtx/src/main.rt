@@ -1,5 +1,5 @@
-//! `mtx play` reads a schedule from standard input: clients' messages, and what happens between the nodes of a cluster. It
-//! writes the replies and the list of commits to standard output.
+//! `mtx play` reads a schedule from standard input: clients' messages, and what happens between the
+//! nodes of a cluster. It writes the replies and the list of commits to standard output.
 #![tactic(auto)]
 
 ghost use Rattle.std.specs.Prelude.{◌≡◌, ◌≤◌, vec_len, IfOk, OnOk};
@@ -39,7 +39,8 @@ fn text_of(alloc: Global, bytes: &[u8]) -> Result<String, AllocError> {
     }
 }
 
-/// The word at that place. One that is too long or isn't UTF-8 is given as the empty word, which is no command's either.
+/// The word at that place. One that is too long or isn't UTF-8 is given as the empty word, which is
+/// no command's either.
 fn word_at<E: Env>(alloc: Global, env: &E, place: usize) -> Result<Option<String>, AllocError> {
     let mut room = [0u8; LONGEST];
     match env.arg(place, &mut room) {

@@ -29,7 +29,8 @@ fn has_clients_alone(schedule: &[u8]) -> bool
     true
 }
 
-/// Reads the whole schedule, and then plays it: over one node where all its lines are of clients, and else over a cluster.
+/// Reads the whole schedule, and then plays it: over one node where all its lines are of clients,
+/// and else over a cluster.
 fn play<S: Source, K: Sink, D: Disk>(
     alloc: Global,
     src: &mut S,
@@ -37,13 +38,17 @@ fn play<S: Source, K: Sink, D: Disk>(
     disks: &mut Vec<D>,
 ) -> Status
     requires disks { vec_len disks.old ≡ 24 }
-    ensures played { WhereKnown (S.left src.old) (λ input. IsPlayed ((d : D) → IsTrue (D.tells d)) input (K.held out.old) (K.held out.new) result) }
-    ensures at_end { result ≡ Status.Ok → WhereKnown (S.left src.old) (λ input. AskAlone input → S.left src.new ≡ Some []) }
+    ensures played { WhereKnown (S.left src.old) (λ input. IsPlayed ((d : D) → IsTrue (D.tells d))
+        input (K.held out.old) (K.held out.new) result) }
+    ensures at_end { result ≡ Status.Ok
+        → WhereKnown (S.left src.old) (λ input. AskAlone input → S.left src.new ≡ Some []) }
     ensures disks { vec_len disks.new ≡ 24 }
     ensures unread { IsUnread result → K.held out.new ≡ K.held out.old }
     ensures words { (index : ℕ) → result ≡ Status.BadWords index → ⊥ }
-    ensures read_fault { result ≡ Status.ReadFault → Rose (S.fault_count src.old) (S.fault_count src.new) }
-    ensures write_fault { result ≡ Status.WriteFault → Rose (K.fault_count out.old) (K.fault_count out.new) }
+    ensures read_fault { result ≡ Status.ReadFault
+        → Rose (S.fault_count src.old) (S.fault_count src.new) }
+    ensures write_fault { result ≡ Status.WriteFault
+        → Rose (K.fault_count out.old) (K.fault_count out.new) }
 {
     let input = match read_input(alloc, src) {
         Ok(input) => input,
@@ -64,25 +69,39 @@ pub fn offline<S: Source, K: Sink, D: Disk>(
     out: &mut K,
     disks: &mut Vec<D>,
 ) -> Status
-    // Place `n` is shard `n`'s, place `16 + n` router `n`'s; all are at their places again behind the call.
+    // Place `n` is shard `n`'s, place `16 + n` router `n`'s; all are at their places again behind
+    // the call.
     requires disks { vec_len disks.old ≡ 24 }
     // The words are refused exactly where they are no command.
-    ensures bad_words { (index : ℕ) → (result ≡ Status.BadWords index) ↔ (word_at_fault (map string_bytes words.now) ≡ Some index) }
-    // What was read was played, over one node where all its lines are of clients, and else over a cluster.
-    ensures played { word_at_fault (map string_bytes words.now) ≡ None → WhereKnown (S.left src.old) (λ input. IsPlayed ((d : D) → IsTrue (D.tells d)) input (K.held out.old) (K.held out.new) result) }
-    // Of a schedule whose lines are all of clients: the status is the schedule's, or something outside failed, or there was no
-    // memory.
-    ensures judged { word_at_fault (map string_bytes words.now) ≡ None → WhereKnown (S.left src.old) (λ input. AskAlone input → Judges input result ⊎ IsInterrupted result) }
+    ensures bad_words { (index : ℕ) → (result ≡ Status.BadWords index)
+        ↔ (word_at_fault (map string_bytes words.now) ≡ Some index) }
+    // What was read was played, over one node where all its lines are of clients, and else over a
+    // cluster.
+    ensures played { word_at_fault (map string_bytes words.now) ≡ None
+        → WhereKnown (S.left src.old) (λ input. IsPlayed ((d : D) → IsTrue (D.tells d)) input
+        (K.held out.old) (K.held out.new) result) }
+    // Of a schedule whose lines are all of clients: the status is the schedule's, or something
+    // outside failed, or there was no memory.
+    ensures judged { word_at_fault (map string_bytes words.now) ≡ None → WhereKnown (S.left src.old)
+        (λ input. AskAlone input → Judges input result ⊎ IsInterrupted result) }
     // It has one status.
-    ensures found { word_at_fault (map string_bytes words.now) ≡ None → WhereKnown (S.left src.old) (λ input. AskAlone input → (status : AnyStatus) → Judges input status → (result ≡ status) ⊎ IsInterrupted result) }
-    // What was written is the text of the lines that were played, and the answers are those of one list of commits.
-    ensures text { WhereKnown (S.left src.old) (λ input. AskAlone input → WhereKnown (K.held out.old) (λ before. WhereKnown (K.held out.new) (λ after. Wrote input before after result))) }
-    ensures at_end { result ≡ Status.Ok → WhereKnown (S.left src.old) (λ input. AskAlone input → S.left src.new ≡ Some []) }
+    ensures found { word_at_fault (map string_bytes words.now) ≡ None
+        → WhereKnown (S.left src.old) (λ input. AskAlone input → (status : AnyStatus)
+        → Judges input status → (result ≡ status) ⊎ IsInterrupted result) }
+    // What was written is the text of the lines that were played, and the answers are those of one
+    // list of commits.
+    ensures text { WhereKnown (S.left src.old)
+        (λ input. AskAlone input → WhereKnown (K.held out.old)
+        (λ before. WhereKnown (K.held out.new) (λ after. Wrote input before after result))) }
+    ensures at_end { result ≡ Status.Ok
+        → WhereKnown (S.left src.old) (λ input. AskAlone input → S.left src.new ≡ Some []) }
     ensures disks { vec_len disks.new ≡ 24 }
     ensures unread { IsUnread result → K.held out.new ≡ K.held out.old }
     // A fault is answered only where that object's count rose in this call.
-    ensures read_fault { result ≡ Status.ReadFault → Rose (S.fault_count src.old) (S.fault_count src.new) }
-    ensures write_fault { result ≡ Status.WriteFault → Rose (K.fault_count out.old) (K.fault_count out.new) }
+    ensures read_fault { result ≡ Status.ReadFault
+        → Rose (S.fault_count src.old) (S.fault_count src.new) }
+    ensures write_fault { result ≡ Status.WriteFault
+        → Rose (K.fault_count out.old) (K.fault_count out.new) }
 {
     match words {
         [] => Status::BadWords { index: 0 },

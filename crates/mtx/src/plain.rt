@@ -39,11 +39,15 @@ fn play_line<K: Sink>(
     out: &mut K,
 ) -> Result<(), Stop>
     requires { IsReady desk.old }
-    ensures ok { OnOk result (AnsweredLine line.now desk.old desk.new (K.held out.old) (K.held out.new)) }
+    ensures ok { OnOk result
+        (AnsweredLine line.now desk.old desk.new (K.held out.old) (K.held out.new)) }
     ensures ready { OnOk result (IsReady desk.new) }
-    ensures bad { (n : ℕ) → result ≡ Err (Stop.BadLine n) → (n ≡ number) × IsBad line.now × (K.held out.new ≡ K.held out.old) }
-    ensures part { OnErr result (AnsweredInPart line.now desk.old (K.held out.old) (K.held out.new)) }
-    ensures faults { FailsOnly Stop.WriteFault (K.fault_count out.old) (K.fault_count out.new) result }
+    ensures bad { (n : ℕ) → result ≡ Err (Stop.BadLine n)
+        → (n ≡ number) × IsBad line.now × (K.held out.new ≡ K.held out.old) }
+    ensures part { OnErr result
+        (AnsweredInPart line.now desk.old (K.held out.old) (K.held out.new)) }
+    ensures faults { FailsOnly Stop.WriteFault (K.fault_count out.old)
+        (K.fault_count out.new) result }
 {
     let ask = match read_ask(alloc, line) {
         Ok(ask) => ask,
@@ -72,10 +76,13 @@ struct Behind {
 /// Plays the lines in their order, and writes what they are answered.
 fn play_lines<K: Sink>(alloc: Global, input: &[u8], out: &mut K) -> Result<Behind, Stop>
     requires { length (lines_of input.now) ≤ most_lines }
-    ensures ok { IfOk result (λ b. PlayedAll input.now b.lines b.desk (K.held out.old) (K.held out.new)) }
-    ensures bad { (n : ℕ) → result ≡ Err (Stop.BadLine n) → PlayedUpTo n input.now (K.held out.old) (K.held out.new) }
+    ensures ok { IfOk result
+        (λ b. PlayedAll input.now b.lines b.desk (K.held out.old) (K.held out.new)) }
+    ensures bad { (n : ℕ) → result ≡ Err (Stop.BadLine n)
+        → PlayedUpTo n input.now (K.held out.old) (K.held out.new) }
     ensures part { OnErr result (PlayedInPart input.now (K.held out.old) (K.held out.new)) }
-    ensures faults { FailsOnly Stop.WriteFault (K.fault_count out.old) (K.fault_count out.new) result }
+    ensures faults { FailsOnly Stop.WriteFault (K.fault_count out.old)
+        (K.fault_count out.new) result }
 {
     let mut desk = Desk::new(alloc);
     let mut rest = input;
@@ -93,7 +100,8 @@ fn play_lines<K: Sink>(alloc: Global, input: &[u8], out: &mut K) -> Result<Behin
 fn write_dump<K: Sink>(alloc: Global, entries: &[Entry], out: &mut K) -> Result<(), SinkErr>
     ensures ok { OnOk result (Went (K.held out.old) (K.held out.new) (dump entries.now)) }
     ensures part { WentInPart (K.held out.old) (K.held out.new) (dump entries.now) }
-    ensures faults { FailsOnly SinkErr.Failed (K.fault_count out.old) (K.fault_count out.new) result }
+    ensures faults { FailsOnly SinkErr.Failed (K.fault_count out.old)
+        (K.fault_count out.new) result }
 {
     let mut text = Vec::new(alloc);
     let Ok(()) = put_dump(alloc, &mut text, entries) else {
@@ -102,15 +110,21 @@ fn write_dump<K: Sink>(alloc: Global, entries: &[Entry], out: &mut K) -> Result<
     write_all(out, text.as_slice())
 }
 
-/// Plays the lines that were read of a schedule. Where more follows that can't be served, it is at fault behind them.
+/// Plays the lines that were read of a schedule. Where more follows that can't be served, it is at
+/// fault behind them.
 pub fn play_plain<K: Sink>(alloc: Global, bytes: &[u8], end: End, out: &mut K) -> Status
     requires few { length (lines_of bytes.now) ≤ most_lines }
-    ensures judged { (left : Option (List ℕ)) → WhereKnown left (λ input. IsInput input bytes.now end) → WhereKnown left (λ input. Judges input result ⊎ IsInterrupted result) }
-    ensures text { (left : Option (List ℕ)) → WhereKnown left (λ input. IsInput input bytes.now end) → WhereKnown left (λ input. WhereKnown (K.held out.old) (λ before. WhereKnown (K.held out.new) (λ after. Wrote input before after result))) }
+    ensures judged { (left : Option (List ℕ))
+        → WhereKnown left (λ input. IsInput input bytes.now end)
+        → WhereKnown left (λ input. Judges input result ⊎ IsInterrupted result) }
+    ensures text { (left : Option (List ℕ)) → WhereKnown left (λ input. IsInput input bytes.now end)
+        → WhereKnown left (λ input. WhereKnown (K.held out.old)
+        (λ before. WhereKnown (K.held out.new) (λ after. Wrote input before after result))) }
     ensures whole { result ≡ Status.Ok → end ≡ End.Whole }
     ensures words { (index : ℕ) → result ≡ Status.BadWords index → ⊥ }
     ensures read { result ≡ Status.ReadFault → ⊥ }
-    ensures write_fault { result ≡ Status.WriteFault → Rose (K.fault_count out.old) (K.fault_count out.new) }
+    ensures write_fault { result ≡ Status.WriteFault
+        → Rose (K.fault_count out.old) (K.fault_count out.new) }
 {
     let behind = match play_lines(alloc, bytes, out) {
         Ok(behind) => behind,

@@ -9,7 +9,8 @@ use std::fmt;
 pub enum Status {
     /// The input was read to its end, and all was written.
     Ok,
-    /// The words are no command; the index, from 0, is the first that can't continue, or their count.
+    /// The words are no command; the index, from 0, is the first that can't continue, or their
+    /// count.
     BadWords { index: u64 },
     /// The line, from 1, is the first outside the form.
     BadLine { line: u64 },
@@ -23,7 +24,8 @@ pub enum Status {
     DiskFault { disk: u16 },
     /// A disk's bytes or records were refused at a start: the record's number, the first being 0.
     BadJournal { disk: u16, index: u64 },
-    /// The schedule has more than 10,000,000 lines, or one settling would deliver more than 1,000,000 messages.
+    /// The schedule has more than 10,000,000 lines, or one settling would deliver more than
+    /// 1,000,000 messages.
     Budget,
     /// The configuration in front of the schedule is none.
     BadConf,

@@ -22,8 +22,8 @@ impl<R: Read + Drop> ReaderSource<R> {
     }
 }
 
-/// Reads once into `room`, and tells how many bytes came; nothing where the reader failed. A read that a signal interrupts
-/// is tried again.
+/// Reads once into `room`, and tells how many bytes came; nothing where the reader failed. A read
+/// that a signal interrupts is tried again.
 fn read_through<R: Read>(inner: &mut R, room: &mut [u8]) -> Option<usize>
     ensures room { length room.new ≡ length room.old }
     ensures bound { IfSome result (λ n. n ≤ length room.old) }

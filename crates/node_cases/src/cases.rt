@@ -2,27 +2,38 @@ use crate::found::Found;
 use crate::standing::Standing;
 use std::alloc::{AllocError, Global};
 
-/// A file of cases that is run: how many there were, the number of the line, what stands, and what was found last.
+/// A file of cases that is run: how many there were, the number of the line, what stands, and what
+/// was found last.
 ///
-/// A line is empty, a comment, which begins with `#`, something that is done, or `= TEXT`: the next line of what was
-/// found when it was done. Each line that was found has to be named so. What is done:
+/// A line is empty, a comment, which begins with `#`, something that is done, or `= TEXT`: the next
+/// line of what was found when it was done. Each line that was found has to be named so. What is
+/// done:
 ///
-/// - `disk ROOM` or `disk ROOM BYTES`: a disk with room for so many bytes, new or with these, in hexadecimal digits.
+/// - `disk ROOM` or `disk ROOM BYTES`: a disk with room for so many bytes, new or with these, in
+///   hexadecimal digits.
 ///   `room ROOM`: the same disk with other room. `file`: its bytes.
-/// - `record RECORD`: the record is appended to the journal of the disk. `payload BYTES`: these bytes are.
-/// - `start SHARD`: what stands is stopped, and the node of this shard starts from its disk: `ok`, `disk fault` or
+/// - `record RECORD`: the record is appended to the journal of the disk. `payload BYTES`: these
+///   bytes are.
+/// - `start SHARD`: what stands is stopped, and the node of this shard starts from its disk: `ok`,
+///   `disk fault` or
 ///   `bad journal INDEX`. `list SHARD`: a node without a disk starts, without a record.
-/// - `at WALL EVENT`: the node is given this. Found are the records that it journals then, each as `+ RECORD`, and the
-///   messages that it gives out, or `nothing`; or `blocked ID by TAG since TIME`, `disk fault` or `stopped`.
+/// - `at WALL EVENT`: the node is given this. Found are the records that it journals then, each as
+///   `+ RECORD`, and the
+///   messages that it gives out, or `nothing`; or `blocked ID by TAG since TIME`, `disk fault` or
+///   `stopped`.
 /// - `records`, `boot`, `faults`, `resolved`: what the node tells.
-/// - `| EVENT` and `> EVENT` keep events. `stops SHARD` gives those with a stroke to a node on a new disk, and finds its
-///   records. Then it does so on disks that stop after 0, 1, 2 .. calls, starts each again without a stop, and gives it
-///   the events kept with `>`: found are where the disk stopped, how many records were journalled by then, how many
+/// - `| EVENT` and `> EVENT` keep events. `stops SHARD` gives those with a stroke to a node on a
+///   new disk, and finds its
+///   records. Then it does so on disks that stop after 0, 1, 2 .. calls, starts each again without
+///   a stop, and gives it
+///   the events kept with `>`: found are where the disk stopped, how many records were journalled
+///   by then, how many
 ///   were found, and the answers behind it; each once, where it is the same as after one call less.
 ///
-/// Events and records are in the words of messages.rt and records.rt. A time is `SECONDS.COUNT`; behind a letter it is a
-/// read timestamp, r, or one of a commit or a prepare, a. Other letters are of a transaction t, a session a or o, its
-/// number n, the place of a statement k, a boot b, a shard s, a coordinator or a cause's number c, a reason w.
+/// Events and records are in the words of messages.rt and records.rt. A time is `SECONDS.COUNT`;
+/// behind a letter it is a read timestamp, r, or one of a commit or a prepare, a. Other letters are
+/// of a transaction t, a session a or o, its number n, the place of a statement k, a boot b, a
+/// shard s, a coordinator or a cause's number c, a reason w.
 #[derive(Drop)]
 pub struct Cases {
     pub count: u64,

@@ -91,7 +91,8 @@ fn filter(alloc: Global, word: &str) -> Result<Filter, Unread> {
     Ok(where_id(alloc, Some(int_of(word)?))?)
 }
 
-/// The operation of the words from this one on: `insert COLLECTION ID:A ..`, `find COLLECTION WHICH`,
+/// The operation of the words from this one on: `insert COLLECTION ID:A ..`, `find COLLECTION
+/// WHICH`,
 /// `inc COLLECTION WHICH BY` or `delete COLLECTION WHICH`; WHICH is an id or `all`.
 pub fn operation_of(alloc: Global, words: &Words, index: usize) -> Result<Op, Unread> {
     let at = index.saturating_add(2);

@@ -100,7 +100,8 @@ fn decide(words: &Words) -> Result<Msg, Unread> {
     }))
 }
 
-/// Why a shard can't commit: `expired begun BEGUN now NOW`, `client abort wWHY`, `boot CARRIED is now HAVE` or
+/// Why a shard can't commit: `expired begun BEGUN now NOW`, `client abort wWHY`, `boot CARRIED is
+/// now HAVE` or
 /// `replaced by NUMBER TAG`.
 fn cause(words: &Words, index: usize) -> Result<Cause, Unread> {
     match words.word(index) {

@@ -11,9 +11,9 @@ use record_store::NodeErr;
 use std::alloc::{AllocError, Global};
 use std::mem;
 
-/// What stands: a disk, the journal on it, the node whose it is, or a node without a disk. Each kind has a list of its
-/// own, and one of the lists has one at most: a node is moved where it starts and where its disk is taken, and nowhere
-/// else.
+/// What stands: a disk, the journal on it, the node whose it is, or a node without a disk. Each
+/// kind has a list of its own, and one of the lists has one at most: a node is moved where it
+/// starts and where its disk is taken, and nowhere else.
 #[derive(Drop)]
 pub struct Standing {
     shard: u16,

@@ -13,8 +13,8 @@ const ROOM: usize = 16_384;
 /// The most calls after which a disk stops.
 const MOST_CALLS: u64 = 2_000;
 
-/// What a node came to: how many records it had when it had started, its records in words, and the event at which its
-/// disk stopped, from 1 on; 0 is its start, and none where it didn't stop.
+/// What a node came to: how many records it had when it had started, its records in words, and the
+/// event at which its disk stopped, from 1 on; 0 is its start, and none where it didn't stop.
 #[derive(Drop)]
 struct Ended {
     started: usize,
@@ -63,7 +63,8 @@ fn end(
     })
 }
 
-/// A node starts on the disk and is given the events; what it answers is found. The disk comes back.
+/// A node starts on the disk and is given the events; what it answers is found. The disk comes
+/// back.
 fn run(
     alloc: Global,
     shard: u16,
@@ -102,7 +103,8 @@ fn begins(lines: &[String], others: &[String]) -> bool {
     front_length(lines, others) == lines.len()
 }
 
-/// Where the disk stopped, how many records were journalled by then, and how many were found behind it.
+/// Where the disk stopped, how many records were journalled by then, and how many were found behind
+/// it.
 fn stop_text(
     alloc: Global,
     place: usize,
@@ -144,8 +146,8 @@ fn stop(
     Ok(Some(found))
 }
 
-/// Gives the events to a node on a new disk, and on disks that stop after 0, 1, 2 .. calls, each of which is started
-/// again and given the events behind.
+/// Gives the events to a node on a new disk, and on disks that stop after 0, 1, 2 .. calls, each of
+/// which is started again and given the events behind.
 pub fn stops(
     alloc: Global,
     shard: u16,

@@ -1,5 +1,6 @@
 -- What is written of ids is read again, whatever stands behind it.
-use Rattle.std.proofs.Common.{◌≡◌, ℕ, ◌≤◌, List, [], ◌∷◌, ◌++◌, length, Some, Ok, refl, ap, ◌∙◌, arith}
+use Rattle.std.proofs.Common.{◌≡◌, ℕ, ◌≤◌, List, [], ◌∷◌, ◌++◌, length, Some, Ok, refl, ap, ◌∙◌}
+use Rattle.std.proofs.Common.{arith}
 use Rattle.std.specs.List.{All}
 use Rattle.std.proofs.lemmas.List.Elements.{All-nil, All-cons}
 use Rattle.std.proofs.lemmas.Str.{IsUtf8-from_ascii, is_utf8-from_IsUtf8}
@@ -14,7 +15,8 @@ use Rattle.bson_core.specs.Names.{IsName}
 use Rattle.bson_core.specs.Nesting.{levels_step, levels, nesting}
 use Rattle.bson_core.specs.Spelling.{spelling}
 use Rattle.bson_core.specs.Written.{IsWritten, IsFieldWritten}
-use Rattle.bson_core.proofs.InGrammar.{text_written, bin_written, oid_written, bool_written, date_written, long_written}
+use Rattle.bson_core.proofs.InGrammar.{text_written, bin_written, oid_written, bool_written}
+use Rattle.bson_core.proofs.InGrammar.{date_written, long_written}
 use Rattle.txn_types.specs.Ids.{id_name, value_of_id, id_document}
 use Rattle.txn_types.specs.declared.id.Id.{Id}
 use Rattle.txn_types.specs.declared.id.Id.TheVariants as kinds
@@ -54,16 +56,24 @@ one_level v h = rw h (omega arith)
 
 id_name_is_name : IsName id_name
 id_name_is_name =
-    let ascii = IsAscii-cons 95 (105 ∷ 100 ∷ []) (omega arith) (IsAscii-cons 105 (100 ∷ []) (omega arith) (IsAscii-cons 100 [] (omega arith) IsAscii-nil)) in
+    let ascii = IsAscii-cons 95 (105 ∷ 100 ∷ []) (omega arith) (IsAscii-cons 105 (100 ∷ [])
+    (omega arith) (IsAscii-cons 100 [] (omega arith) IsAscii-nil)) in
     (is_utf8-from_IsUtf8 id_name (IsUtf8-from_ascii id_name ascii), refl)
 
 id_document_fits : (id : Id) → IdFits id → DocumentFits (id_document id)
-id_document_fits id h =
-    (All-cons IsFieldWritten (id_name, value_of_id id) [] (id_name_is_name, id_written id h.0) (All-nil IsFieldWritten), one_level (value_of_id id) (flat id), h.1)
+id_document_fits id h = (
+  All-cons IsFieldWritten (id_name, value_of_id id) [] (id_name_is_name, id_written id h.0)
+      (All-nil IsFieldWritten),
+  one_level (value_of_id id) (flat id),
+  h.1,
+)
 
-id_pieces : (end : ℕ) (bytes rest : List ℕ) (id : Id) (v : Value) → document_at end (bytes ++ rest) ≡ Ok ((id_name, v) ∷ [], rest) → long_id (out-Value v) v ≡ Some id → id_at end (bytes ++ rest) ≡ Ok (id, rest)
+id_pieces : (end : ℕ) (bytes rest : List ℕ) (id : Id) (v : Value)
+    → document_at end (bytes ++ rest) ≡ Ok ((id_name, v) ∷ [], rest)
+    → long_id (out-Value v) v ≡ Some id → id_at end (bytes ++ rest) ≡ Ok (id, rest)
 unfolding id_at
 id_pieces end bytes rest id v h its = rw (h, its) refl
 
 pub id_again : (end : ℕ) (id : Id) → IdFits id → IsReadAs (id_at end) (id_bytes id) id
-id_again end id h rest = id_pieces end (id_bytes id) rest id (value_of_id id) (document_again end (id_document id) (id_document_fits id h) rest) (its_id id)
+id_again end id h rest = id_pieces end (id_bytes id) rest id (value_of_id id) (document_again end
+    (id_document id) (id_document_fits id h) rest) (its_id id)

@@ -1,6 +1,8 @@
--- What can be written of a message between nodes: a number within its bytes, a client's session of 16 bytes, a count or a
--- length within four, a document of at most 100 levels, a filter of at most 200.
-use Rattle.std.specs.Prelude.{◌≡◌, ◌<◌, ◌≤◌, ◌^◌, ℕ, zero, suc, Bool, true, List, [], ◌∷◌, Option, Some, None, is_some, Result, Ok, Err, length, FitsSigned}
+-- What can be written of a message between nodes: a number within its bytes, a client's session of
+-- 16 bytes, a count or a length within four, a document of at most 100 levels, a filter of at most
+-- 200.
+use Rattle.std.specs.Prelude.{◌≡◌, ◌<◌, ◌≤◌, ◌^◌, ℕ, zero, suc, Bool, true, List, [], ◌∷◌, Option}
+use Rattle.std.specs.Prelude.{Some, None, is_some, Result, Ok, Err, length, FitsSigned}
 use Rattle.std.specs.Int.{w64}
 use Rattle.std.specs.List.{All}
 use Rattle.std.specs.Str.{is_utf8}
@@ -125,7 +127,8 @@ UpdateFits (update.Ops ops) = ListFits UpdateOpFits ops
 
 -- a document to insert has an id
 abbrev pub InsertItemFits : InsertItem → Type 0
-InsertItemFits item = (item.index < 2 ^ 32) × DocumentFits item.doc × (is_some (id_in item.doc) ≡ true)
+InsertItemFits item = (item.index < 2 ^ 32) × DocumentFits item.doc
+    × (is_some (id_in item.doc) ≡ true)
 
 abbrev pub UpdateItemFits : UpdateItem → Type 0
 UpdateItemFits item = (item.index < 2 ^ 32) × OuterFilterFits item.filter × UpdateFits item.update
@@ -186,17 +189,24 @@ ToldFits (told.TooOld have) = FitsSigned w64 have
 ToldFits told.NoTrace = Unit {0}
 
 abbrev pub MsgFits : Msg → Type 0
-MsgFits (msg.Statement m) = TagFits m.tag × LsidFits m.lsid × FitsSigned w64 m.number × (m.k < 2 ^ 32) × (m.read_at < 2 ^ 64) × (m.boot < 2 ^ 32) × OpFits m.op
-MsgFits (msg.Answer m) = TagFits m.tag × (m.k < 2 ^ 32) × (m.shard < 2 ^ 16) × (m.boot < 2 ^ 32) × (m.read_at < 2 ^ 64) × OutcomeFits m.outcome
-MsgFits (msg.Commit m) = TagFits m.tag × LsidFits m.lsid × FitsSigned w64 m.number × (m.boot < 2 ^ 32)
+MsgFits (msg.Statement m) = TagFits m.tag × LsidFits m.lsid × FitsSigned w64 m.number
+    × (m.k < 2 ^ 32) × (m.read_at < 2 ^ 64) × (m.boot < 2 ^ 32) × OpFits m.op
+MsgFits (msg.Answer m) = TagFits m.tag × (m.k < 2 ^ 32) × (m.shard < 2 ^ 16) × (m.boot < 2 ^ 32)
+    × (m.read_at < 2 ^ 64) × OutcomeFits m.outcome
+MsgFits (msg.Commit m) = TagFits m.tag × LsidFits m.lsid × FitsSigned w64 m.number
+    × (m.boot < 2 ^ 32)
 MsgFits (msg.Outcome m) = TagFits m.tag × (m.shard < 2 ^ 16) × (m.boot < 2 ^ 32) × ToldFits m.told
 MsgFits (msg.Abort m) = TagFits m.tag × LsidFits m.lsid × FitsSigned w64 m.number
-MsgFits (msg.CommitTwo m) = TagFits m.tag × LsidFits m.lsid × FitsSigned w64 m.number × (m.boot < 2 ^ 32) × (length m.parts < 2 ^ 16) × All PartFits m.parts
-MsgFits (msg.Prepare m) = TagFits m.tag × LsidFits m.lsid × FitsSigned w64 m.number × (m.boot < 2 ^ 32) × (m.coordinator < 2 ^ 16)
+MsgFits (msg.CommitTwo m) = TagFits m.tag × LsidFits m.lsid × FitsSigned w64 m.number
+    × (m.boot < 2 ^ 32) × (length m.parts < 2 ^ 16) × All PartFits m.parts
+MsgFits (msg.Prepare m) = TagFits m.tag × LsidFits m.lsid × FitsSigned w64 m.number
+    × (m.boot < 2 ^ 32) × (m.coordinator < 2 ^ 16)
 MsgFits (msg.Vote m) = TagFits m.tag × (m.shard < 2 ^ 16) × VoteFits m.vote
-MsgFits (msg.Decide m) = TagFits m.tag × LsidFits m.lsid × FitsSigned w64 m.number × DecisionFits m.decision
+MsgFits (msg.Decide m) = TagFits m.tag × LsidFits m.lsid × FitsSigned w64 m.number
+    × DecisionFits m.decision
 MsgFits (msg.Acked m) = TagFits m.tag × (m.shard < 2 ^ 16)
-MsgFits (msg.Recover m) = TagFits m.tag × LsidFits m.lsid × FitsSigned w64 m.number × (m.boot < 2 ^ 32)
+MsgFits (msg.Recover m) = TagFits m.tag × LsidFits m.lsid × FitsSigned w64 m.number
+    × (m.boot < 2 ^ 32)
 MsgFits msg.Nudge = Unit {0}
 
 abbrev pub EnvelopeFits : Envelope → Type 0

@@ -2,7 +2,8 @@ ghost use Rattle.std.specs.Prelude.{◌≡◌};
 
 use std::snapshot::Snapshot;
 
-/// What the lock's slot holds: the machine, and a note of the call that was just made, which has no bytes.
+/// What the lock's slot holds: the machine, and a note of the call that was just made, which has no
+/// bytes.
 #[derive(Drop)]
 pub struct Kept<M, E, A> {
     pub machine: Option<M>,

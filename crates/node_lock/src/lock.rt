@@ -23,8 +23,8 @@ pub enum LockErr {
     Memory,
 }
 
-/// A table of three words, the next ticket, the ticket that is served and the number of calls, and of one slot, which has
-/// the machine.
+/// A table of three words, the next ticket, the ticket that is served and the number of calls, and
+/// of one slot, which has the machine.
 #[derive(Drop)]
 pub struct LockOf<S, V, K, P: TableRule<S, V, K>> {
     table: Table<S, V, K, P, Global>,
@@ -50,16 +50,19 @@ pub type NodeLock<M> = LockOf<
 >;
 
 impl<M: Machine> NodeLock<M> {
-    /// A lock round the machine, and the first pass of it, which holds all shares. Cut passes off it by `split`, at most as
-    /// many as there are shares. The machine comes back for want of memory.
+    /// A lock round the machine, and the first pass of it, which holds all shares. Cut passes off
+    /// it by `split`, at most as many as there are shares. The machine comes back for want of
+    /// memory.
     pub fn new(
         alloc: Global,
         machine: M,
         shares: u64,
     ) -> Result<(NodeLock<M>, Pass<M>), (LockErr, M)>
         requires { 0 < shares }
-        ensures pass { IfOk result (λ made. (made.1.table ≡ made.0.table) × (made.1.knows ≡ newcomer machine shares)) }
-        ensures about { IfOk result (λ made. (made.0.about.opening.value ≡ machine) × (made.0.about.shares ≡ shares)) }
+        ensures pass { IfOk result
+            (λ made. (made.1.table ≡ made.0.table) × (made.1.knows ≡ newcomer machine shares)) }
+        ensures about { IfOk result
+            (λ made. (made.0.about.opening.value ≡ machine) × (made.0.about.shares ≡ shares)) }
         ensures refused { IfErr result (λ back. back.1 ≡ machine) }
     {
         let about = About {
@@ -90,7 +93,8 @@ impl<M: Machine> NodeLock<M> {
         requires table { seat.old.table_id ≡ self.now.table }
         requires idle { (seat.old.me.0.stage ≡ Idle) × (0 < seat.old.me.0.shares) }
         ensures table { (seat.new.table_id ≡ seat.old.table_id) × (seat.new.id ≡ seat.old.id) }
-        ensures ticket { (t : ℕ) × (seat.new.me ≡ (staged seat.old.me.0 (Waiting t), seat.old.me.1)) × (result ≡ wrap t) }
+        ensures ticket { (t : ℕ) × (seat.new.me ≡ (staged seat.old.me.0 (Waiting t), seat.old.me.1))
+            × (result ≡ wrap t) }
     {
         self.table.shared.fetch_add::<Draw>(seat, 0, 1)
     }
@@ -100,7 +104,8 @@ impl<M: Machine> NodeLock<M> {
         requires table { seat.old.table_id ≡ self.now.table }
         requires waits { (t : ℕ) × (seat.old.me.0.stage ≡ Waiting t) × (ticket ≡ wrap t) }
         ensures table { (seat.new.table_id ≡ seat.old.table_id) × (seat.new.id ≡ seat.old.id) }
-        ensures served { MatchBool result ((t : ℕ) × Served t seat.old.me seat.new.me) (seat.new.me ≡ seat.old.me) }
+        ensures served { MatchBool result ((t : ℕ) × Served t seat.old.me seat.new.me)
+            (seat.new.me ≡ seat.old.me) }
     {
         self.table.shared.load::<Look>(seat, 1) == ticket
     }
@@ -191,8 +196,8 @@ impl<M: Machine> NodeLock<M> {
         (place, answer)
     }
 
-    /// Gives the machine the event, and answers the call's place in the history, modulo 2^64, and the machine's answer. It
-    /// waits for other callers, so what it ensures holds if it returns.
+    /// Gives the machine the event, and answers the call's place in the history, modulo 2^64, and
+    /// the machine's answer. It waits for other callers, so what it ensures holds if it returns.
     pub fn call<R: Wait>(&self, rt: &R, pass: &mut Pass<M>, event: &M::Event) -> (u64, M::Answer)
         requires { pass.old.table ≡ self.now.table }
         ensures table { pass.new.table ≡ pass.old.table }
@@ -212,7 +217,8 @@ impl<M: Machine> NodeLock<M> {
         PassOf { seat }
     }
 
-    /// Takes another pass in. Afterwards `pass` has seen what both had, and has the calls and the shares of both.
+    /// Takes another pass in. Afterwards `pass` has seen what both had, and has the calls and the
+    /// shares of both.
     pub fn meet(&self, pass: &mut Pass<M>, note: Pass<M>)
         requires { (pass.old.table ≡ self.now.table) × (note.table ≡ self.now.table) }
         ensures table { pass.new.table ≡ pass.old.table }
@@ -224,8 +230,8 @@ impl<M: Machine> NodeLock<M> {
         self.glance(seat);
     }
 
-    /// The length of the whole history, modulo 2^64. The pass holds all shares of the lock, so no other is left: each call
-    /// of the history was made with it, or with one that it met.
+    /// The length of the whole history, modulo 2^64. The pass holds all shares of the lock, so no
+    /// other is left: each call of the history was made with it, or with one that it met.
     pub fn whole(&self, pass: &mut Pass<M>) -> u64
         requires table { pass.old.table ≡ self.now.table }
         requires shares { pass.old.knows.shares ≡ pass.old.knows.all }
@@ -240,8 +246,8 @@ fn is_send<T: Send>(_: &T) {}
 
 fn is_sync<T: Sync>(_: &T) {}
 
-/// Threads may share a lock, and a lock and its passes may go to other threads, where the machine may. The function is
-/// proved, which shows that; it does nothing.
+/// Threads may share a lock, and a lock and its passes may go to other threads, where the machine
+/// may. The function is proved, which shows that; it does nothing.
 pub fn threads_may_share<M: Machine + Send>(lock: &NodeLock<M>, pass: &Pass<M>) {
     is_sync(lock);
     is_send(lock);

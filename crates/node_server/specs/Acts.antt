@@ -1,4 +1,5 @@
--- What a connection does: it asks its Talk what event a message is, and tells it what the machine answered.
+-- What a connection does: it asks its Talk what event a message is, and tells it what the machine
+-- answered.
 use Rattle.std.specs.Prelude.{◌≡◌, ℕ, List, [], ◌∷◌, ◌++◌, Result, Ok, Err}
 use Rattle.std.specs.List.{flat_map}
 use Rattle.node_lock.specs.declared.law.View.{View}
@@ -7,12 +8,14 @@ use Rattle.node_server.specs.declared.talk.NextOf.{NextOf}
 use Rattle.node_server.specs.declared.talk.NextOf.TheVariants.{Call, Hold, Write, Close}
 use Rattle.node_server.specs.declared.talk.TalkErr.{TalkErr}
 
--- a message was given to the Talk; or a call was made, at this place of the history, and the Talk was told of it
+-- a message was given to the Talk; or a call was made, at this place of the history, and the Talk
+-- was told of it
 pub data Act (E A : Type 0) : Type 0 where
   asked : List ℕ → Result E TalkErr → Act E A
   told : ℕ → E → A → Result (NextOf E) TalkErr → Act E A
 
--- what is due next: a message; a call of this event, for this message; the end, on this message; or the end, for this cause
+-- what is due next: a message; a call of this event, for this message; the end, on this message; or
+-- the end, for this cause
 pub data Due (E : Type 0) : Type 0 where
   message : Due E
   calling : List ℕ → E → Due E
@@ -45,11 +48,12 @@ module _ {E : Type 0} where
   bytes_next (Err e) = []
 
 module _ {E A : Type 0} where
-  -- each thing as it was due: a message once, and then the calls of its event, of the same again behind Hold, and of those
-  -- that Call names
+  -- each thing as it was due: a message once, and then the calls of its event, of the same again
+  -- behind Hold, and of those that Call names
   abbrev pub InTurn : Due E → Act E A → Due E → Type 0
   InTurn message (asked frame made) end = end ≡ due_asked frame made
-  InTurn (calling frame event) (told place e answer next) end = (e ≡ event) × (end ≡ due_told frame event next)
+  InTurn (calling frame event) (told place e answer next) end = (e ≡ event)
+      × (end ≡ due_told frame event next)
   InTurn due act end = ⊥
 
   -- the messages that the Talk was given
@@ -77,18 +81,22 @@ module _ {E A : Type 0} where
   written acts = flat_map bytes_of acts
 
 -- the Talk's part in it
-abbrev pub Moves : {T E A : Type 0} → (T → List ℕ → Result E TalkErr → T → Type 0) → (T → A → Result (NextOf E) TalkErr → T → Type 0) → T → Act E A → T → Type 0
+abbrev pub Moves : {T E A : Type 0} → (T → List ℕ → Result E TalkErr → T → Type 0)
+    → (T → A → Result (NextOf E) TalkErr → T → Type 0) → T → Act E A → T → Type 0
 Moves makes carries old (asked frame made) new = makes old frame made new
 Moves makes carries old (told place event answer next) new = carries old answer next new
 
 -- the pass's part in it: each call is one more of the calls made with it
-abbrev pub Counts : {M E A : Type 0} → (M → E → A → M → Type 0) → View M E A → Act E A → View M E A → Type 0
+abbrev pub Counts : {M E A : Type 0} → (M → E → A → M → Type 0) → View M E A → Act E A
+    → View M E A → Type 0
 Counts takes old (asked frame made) new = new ≡ old
 Counts takes old (told place event answer next) new = Called takes event place answer old new
 
 -- What a connection did, as its Talk, its pass and its log have it
-pub record Did {T M E A : Type 0} (makes : T → List ℕ → Result E TalkErr → T → Type 0) (carries : T → A → Result (NextOf E) TalkErr → T → Type 0) (takes : M → E → A → M → Type 0)
-    (acts : List (Act E A)) (talk talk' : T) (pass pass' : View M E A) (log log' : List (ℕ × E × A)) (due due' : Due E) : Type 0 where
+pub record Did {T M E A : Type 0} (makes : T → List ℕ → Result E TalkErr → T → Type 0)
+    (carries : T → A → Result (NextOf E) TalkErr → T → Type 0) (takes : M → E → A → M → Type 0)
+    (acts : List (Act E A)) (talk talk' : T) (pass pass' : View M E A) (log log' : List (ℕ × E × A))
+    (due due' : Due E) : Type 0 where
   pub moved : Through (Moves makes carries) talk acts talk'
   pub counted : Through (Counts takes) pass acts pass'
   pub logged : log' ≡ log ++ calls acts

@@ -34,8 +34,8 @@ pub enum Reply {
     Close(Bytes),
 }
 
-// A call of the event, which is logged, and what the Talk makes of its answer; and the event once more. All memory is there
-// before the call.
+// A call of the event, which is logged, and what the Talk makes of its answer; and the event once
+// more. All memory is there before the call.
 fn call_once<R: Wait, M: Machine, T: Talk<M>>(
     rt: &R,
     alloc: Global,
@@ -49,11 +49,15 @@ where
     M::Event: Drop,
     requires { pass.old.table ≡ lock.now.table }
     ensures table { pass.new.table ≡ pass.old.table }
-    ensures called { IfOk result (λ made. (place : ℕ) × (answer : M.Answer) × Called M.takes event place answer pass.old.knows pass.new.knows
-        × T.carries talk.old answer made.0 talk.new × (log.new ≡ log.old ++ (place, event, answer) ∷ [])) }
+    ensures called { IfOk result (λ made. (place : ℕ) × (answer : M.Answer)
+        × Called M.takes event place answer pass.old.knows pass.new.knows
+        × T.carries talk.old answer made.0 talk.new
+        × (log.new ≡ log.old ++ (place, event, answer) ∷ [])) }
     ensures again { IfOk result (λ made. made.1 ≡ event) }
-    ensures faults { IfOk result (λ made. FailsOnly TalkErr.Failed (T.fault_count talk.old) (T.fault_count talk.new) made.0) }
-    ensures refused { OnErr result ((pass.new ≡ pass.old) × (talk.new ≡ talk.old) × (log.new ≡ log.old)) }
+    ensures faults { IfOk result (λ made. FailsOnly TalkErr.Failed (T.fault_count talk.old)
+        (T.fault_count talk.new) made.0) }
+    ensures refused { OnErr result
+        ((pass.new ≡ pass.old) × (talk.new ≡ talk.old) × (log.new ≡ log.old)) }
 {
     log.calls.reserve(1)?;
     let again = M::copy_event(alloc, &event)?;
@@ -76,8 +80,8 @@ fn heed<E: Drop>(next: Result<NextOf<E>, TalkErr>, again: E) -> Result<Turn<E>, 
     }
 }
 
-// A call, and then a ring of the room; or, where the machine held the event, a wait in it for a call of another. The count
-// is read before the call, so that no ring behind it is missed.
+// A call, and then a ring of the room; or, where the machine held the event, a wait in it for a
+// call of another. The count is read before the call, so that no ring behind it is missed.
 fn take_turn<R: Wait, M: Machine, T: Talk<M>>(
     rt: &R,
     alloc: Global,
@@ -93,8 +97,10 @@ where
     requires { pass.old.table ≡ lock.now.table }
     ensures table { pass.new.table ≡ pass.old.table }
     ensures later { T.fault_count talk.old ≤ T.fault_count talk.new }
-    ensures answered { (frame : List ℕ) → Answered T.makes T.carries M.takes talk.old talk.new pass.old.knows pass.new.knows log.old log.new
-        (calling frame event) [] (Turns frame (T.fault_count talk.old) (T.fault_count talk.new) result) }
+    ensures answered { (frame : List ℕ) → Answered T.makes T.carries M.takes talk.old talk.new
+        pass.old.knows pass.new.knows log.old log.new
+        (calling frame event) []
+        (Turns frame (T.fault_count talk.old) (T.fault_count talk.new) result) }
 {
     let seen = room.count();
     let Ok(made) = call_once(rt, alloc, lock, pass, talk, log, event) else {
@@ -124,8 +130,10 @@ where
     requires { pass.old.table ≡ lock.now.table }
     ensures table { pass.new.table ≡ pass.old.table }
     ensures later { T.fault_count talk.old ≤ T.fault_count talk.new }
-    ensures answered { (frame : List ℕ) → Answered T.makes T.carries M.takes talk.old talk.new pass.old.knows pass.new.knows log.old log.new
-        (calling frame event) [] (Turns frame (T.fault_count talk.old) (T.fault_count talk.new) (replied result)) }
+    ensures answered { (frame : List ℕ) → Answered T.makes T.carries M.takes talk.old talk.new
+        pass.old.knows pass.new.knows log.old log.new
+        (calling frame event) []
+        (Turns frame (T.fault_count talk.old) (T.fault_count talk.new) (replied result)) }
 {
     let mut event = event;
     for _ in rt.forever() {

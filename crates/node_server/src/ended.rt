@@ -7,7 +7,8 @@ pub enum Ended {
     Done,
     /// The link failed.
     LinkFault,
-    /// The peer sent what is no message, by its length, or by what the Talk closed the connection on.
+    /// The peer sent what is no message, by its length, or by what the Talk closed the connection
+    /// on.
     BadFrame { err: FrameErr },
     /// The peer ended inside a message.
     Cut,

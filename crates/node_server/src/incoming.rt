@@ -38,7 +38,8 @@ impl Incoming {
     // The next message, where all of it is held.
     fn take(&mut self) -> Result<Option<Bytes>, Ended>
         ensures limit { self.new.feeder.limit ≡ self.old.feeder.limit }
-        ensures takes { Takes self.old.feeder.limit self.old.feeder.held self.new.feeder.held result }
+        ensures takes { Takes self.old.feeder.limit self.old.feeder.held
+            self.new.feeder.held result }
     {
         match self.feeder.next() {
             Ok(Some(frame)) => {
@@ -70,9 +71,12 @@ impl Incoming {
         requires limit { self.old.feeder.limit < 2 ^ 32 }
         ensures limit { self.new.feeder.limit ≡ self.old.feeder.limit }
         ensures held { L.held link.new ≡ L.held link.old }
-        ensures later { (L.fault_count link.old ≤ L.fault_count link.new) × (L.end_count link.old ≤ L.end_count link.new) }
-        ensures fetches { Fetches self.old.feeder.limit self.old.feeder.held (λ _ rest. rest ≡ self.new.feeder.held) (L.left link.old) (L.left link.new)
-            (L.fault_count link.old) (L.fault_count link.new) (L.end_count link.old) (L.end_count link.new) result }
+        ensures later { (L.fault_count link.old ≤ L.fault_count link.new)
+            × (L.end_count link.old ≤ L.end_count link.new) }
+        ensures fetches { Fetches self.old.feeder.limit self.old.feeder.held
+            (λ _ rest. rest ≡ self.new.feeder.held) (L.left link.old) (L.left link.new)
+            (L.fault_count link.old) (L.fault_count link.new) (L.end_count link.old)
+            (L.end_count link.new) result }
     {
         self.piece.clear();
         let count = match link.receive(PIECE, &mut self.piece) {
@@ -95,9 +99,13 @@ impl Incoming {
         requires limit { self.old.feeder.limit < 2 ^ 32 }
         ensures limit { self.new.feeder.limit ≡ self.old.feeder.limit }
         ensures held { L.held link.new ≡ L.held link.old }
-        ensures later { (L.fault_count link.old ≤ L.fault_count link.new) × (L.end_count link.old ≤ L.end_count link.new) }
-        ensures fetches { Fetches self.old.feeder.limit self.old.feeder.held (λ frame rest. next_of self.old.feeder.limit rest ≡ Ok (Some (frame, self.new.feeder.held))) (L.left link.old) (L.left link.new)
-            (L.fault_count link.old) (L.fault_count link.new) (L.end_count link.old) (L.end_count link.new) result }
+        ensures later { (L.fault_count link.old ≤ L.fault_count link.new)
+            × (L.end_count link.old ≤ L.end_count link.new) }
+        ensures fetches { Fetches self.old.feeder.limit self.old.feeder.held
+            (λ frame rest. next_of self.old.feeder.limit rest
+            ≡ Ok (Some (frame, self.new.feeder.held))) (L.left link.old) (L.left link.new)
+            (L.fault_count link.old) (L.fault_count link.new) (L.end_count link.old)
+            (L.end_count link.new) result }
     {
         for _ in rt.forever() {
             if let Some(frame) = self.take()? {

@@ -1,5 +1,6 @@
-//! The loop of one connection to a node: it cuts the peer's bytes into messages, makes each an event of the node's machine,
-//! gives it to the machine under the node's lock, and writes what its Talk gives before it reads the next message.
+//! The loop of one connection to a node: it cuts the peer's bytes into messages, makes each an
+//! event of the node's machine, gives it to the machine under the node's lock, and writes what its
+//! Talk gives before it reads the next message.
 #![tactic(auto)]
 
 mod calling;

@@ -4,7 +4,8 @@ use machine::Machine;
 use std::alloc::Global;
 use std::marker::Model;
 
-/// The calls of a connection: the place of each in the node's history, modulo 2^64, its event, and its answer.
+/// The calls of a connection: the place of each in the node's history, modulo 2^64, its event, and
+/// its answer.
 #[derive(Drop)]
 pub struct LogOf<E, A> {
     pub(crate) calls: Vec<(u64, E, A)>,

@@ -32,7 +32,8 @@ fn send<L: Link>(link: &mut L, bytes: &[u8]) -> Result<(), Ended>
     ensures whole { OnOk result (Went (L.held link.old) (L.held link.new) bytes.now) }
     ensures part { WentInPart (L.held link.old) (L.held link.new) bytes.now }
     ensures left { L.left link.new ≡ L.left link.old }
-    ensures later { (L.fault_count link.old ≤ L.fault_count link.new) × (L.end_count link.old ≤ L.end_count link.new) }
+    ensures later { (L.fault_count link.old ≤ L.fault_count link.new)
+        × (L.end_count link.old ≤ L.end_count link.new) }
     ensures cause { IfErr result (SendFails (L.fault_count link.old) (L.fault_count link.new)) }
 {
     match send_all(link, bytes) {
@@ -50,8 +51,10 @@ fn write_reply<L: Link>(
     reply: Reply,
 ) -> Result<(), Ended>
     ensures left { L.left link.new ≡ L.left link.old }
-    ensures later { (L.fault_count link.old ≤ L.fault_count link.new) × (L.end_count link.old ≤ L.end_count link.new) }
-    ensures replies { Replies frame.now (L.held link.old) (L.held link.new) (L.fault_count link.old) (L.fault_count link.new) reply result }
+    ensures later { (L.fault_count link.old ≤ L.fault_count link.new)
+        × (L.end_count link.old ≤ L.end_count link.new) }
+    ensures replies { Replies frame.now (L.held link.old) (L.held link.new) (L.fault_count link.old)
+        (L.fault_count link.new) reply result }
 {
     match reply {
         Reply::Write(bytes) => send(link, bytes.as_slice()),
@@ -84,9 +87,12 @@ where
     requires kept { kept.now ≡ frame }
     ensures table { pass.new.table ≡ pass.old.table }
     ensures left { L.left link.new ≡ L.left link.old }
-    ensures later { (L.fault_count link.old ≤ L.fault_count link.new) × (L.end_count link.old ≤ L.end_count link.new) × (T.fault_count talk.old ≤ T.fault_count talk.new) }
-    ensures answered { Answered T.makes T.carries M.takes talk.old talk.new pass.old.knows pass.new.knows log.old log.new message (frame ∷ [])
-        (Frames (L.held link.old) (L.held link.new) (L.fault_count link.old) (L.fault_count link.new) (T.fault_count talk.old) (T.fault_count talk.new) result) }
+    ensures later { (L.fault_count link.old ≤ L.fault_count link.new) × (L.end_count link.old
+        ≤ L.end_count link.new) × (T.fault_count talk.old ≤ T.fault_count talk.new) }
+    ensures answered { Answered T.makes T.carries M.takes talk.old talk.new pass.old.knows
+        pass.new.knows log.old log.new message (frame ∷ [])
+        (Frames (L.held link.old) (L.held link.new) (L.fault_count link.old)
+        (L.fault_count link.new) (T.fault_count talk.old) (T.fault_count talk.new) result) }
 {
     let event = match talk.event(frame) {
         Ok(event) => event,
@@ -118,10 +124,16 @@ where
     requires limit { incoming.old.feeder.limit < 2 ^ 32 }
     ensures table { pass.new.table ≡ pass.old.table }
     ensures limit { incoming.new.feeder.limit ≡ incoming.old.feeder.limit }
-    ensures later { Later (tally (L.fault_count link.old) (L.end_count link.old) (T.fault_count talk.old)) (tally (L.fault_count link.new) (L.end_count link.new) (T.fault_count talk.new)) }
-    ensures served { Served T.makes T.carries M.takes talk.old talk.new pass.old.knows pass.new.knows log.old log.new incoming.old.feeder.limit incoming.old.feeder.held (L.left link.old) (L.left link.new)
-        (Serves incoming.old.feeder.limit incoming.new.feeder.held (L.left link.new) (L.held link.old) (L.held link.new)
-        (tally (L.fault_count link.old) (L.end_count link.old) (T.fault_count talk.old)) (tally (L.fault_count link.new) (L.end_count link.new) (T.fault_count talk.new)) result) }
+    ensures later { Later (tally (L.fault_count link.old)
+        (L.end_count link.old) (T.fault_count talk.old))
+        (tally (L.fault_count link.new) (L.end_count link.new) (T.fault_count talk.new)) }
+    ensures served { Served T.makes T.carries M.takes talk.old talk.new pass.old.knows
+        pass.new.knows log.old log.new incoming.old.feeder.limit incoming.old.feeder.held
+        (L.left link.old) (L.left link.new)
+        (Serves incoming.old.feeder.limit incoming.new.feeder.held (L.left link.new)
+        (L.held link.old) (L.held link.new)
+        (tally (L.fault_count link.old) (L.end_count link.old) (T.fault_count talk.old)) (tally
+        (L.fault_count link.new) (L.end_count link.new) (T.fault_count talk.new)) result) }
 {
     let frame = match incoming.next(rt, link) {
         Ok(frame) => frame,
@@ -133,12 +145,14 @@ where
     serve_frame(rt, alloc, lock, pass, room, link, talk, log, frame, &kept)
 }
 
-/// Serves one connection until it ends: it reads a message, makes calls, and writes before it reads the next. Where the
-/// Talk says `Hold` it waits in the room, with the lock left, until another connection has made a call; it rings the room
-/// behind each other call of its own. It may wait for other threads, so what it ensures holds if it returns.
+/// Serves one connection until it ends: it reads a message, makes calls, and writes before it reads
+/// the next. Where the Talk says `Hold` it waits in the room, with the lock left, until another
+/// connection has made a call; it rings the room behind each other call of its own. It may wait for
+/// other threads, so what it ensures holds if it returns.
 ///
-/// What it did is told as a list of acts: the messages that it read, each given to the Talk once, and the calls that it
-/// made, each logged. After `Memory` what it read, sent, wrote and called before stands.
+/// What it did is told as a list of acts: the messages that it read, each given to the Talk once,
+/// and the calls that it made, each logged. After `Memory` what it read, sent, wrote and called
+/// before stands.
 pub fn serve_connection<R: Wait, M: Machine, L: Link, T: Talk<M>>(
     rt: &R,
     alloc: Global,
@@ -153,9 +167,12 @@ where
     M::Event: Drop,
     requires { pass.old.table ≡ lock.now.table }
     ensures table { pass.new.table ≡ pass.old.table }
-    ensures served { Served T.makes T.carries M.takes talk.old talk.new pass.old.knows pass.new.knows log.old log.new (T.frame_limit talk.old) [] (L.left link.old) (L.left link.new)
+    ensures served { Served T.makes T.carries M.takes talk.old talk.new pass.old.knows
+        pass.new.knows log.old log.new (T.frame_limit talk.old) [] (L.left link.old)
+        (L.left link.new)
         (EndsSo (T.frame_limit talk.old) (L.left link.new) (L.held link.old) (L.held link.new)
-        (tally (L.fault_count link.old) (L.end_count link.old) (T.fault_count talk.old)) (tally (L.fault_count link.new) (L.end_count link.new) (T.fault_count talk.new)) result) }
+        (tally (L.fault_count link.old) (L.end_count link.old) (T.fault_count talk.old)) (tally
+        (L.fault_count link.new) (L.end_count link.new) (T.fault_count talk.new)) result) }
 {
     let mut incoming = Incoming::new(alloc, talk.limit());
     for _ in rt.forever() {

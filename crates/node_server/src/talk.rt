@@ -51,7 +51,8 @@ pub trait Talk<M: Machine> {
         ensures makes { makes self.old frame result self.new }
         ensures faults { FailsOnly TalkErr.Failed (fault_count self.old) (fault_count self.new) result };
 
-    /// Carries an answer's messages on, which may wait for other threads, and says what is done next.
+    /// Carries an answer's messages on, which may wait for other threads, and says what is done
+    /// next.
     fn after<R: Wait>(&mut self, rt: &R, answer: &M::Answer) -> Result<Next<M>, TalkErr>
         ensures carries { carries self.old answer.now result self.new }
         ensures faults { FailsOnly TalkErr.Failed (fault_count self.old) (fault_count self.new) result };

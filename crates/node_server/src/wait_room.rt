@@ -5,8 +5,8 @@ use std::sync::Wait;
 use std::sync::atomic::{AtomicU64, Ordering};
 use std::time::Duration;
 
-/// A room where threads wait for a count to change. It lies in a block of memory of its own, so that threads that look at it
-/// don't slow down those that write beside it.
+/// A room where threads wait for a count to change. It lies in a block of memory of its own, so
+/// that threads that look at it don't slow down those that write beside it.
 #[derive(Drop)]
 pub struct WaitRoom {
     count: CachePadded<AtomicU64>,
@@ -24,7 +24,8 @@ impl WaitRoom {
         self.count.load(Ordering::SeqCst)
     }
 
-    /// Adds 1 to the count, modulo 2^64, and wakes those who sleep; whoever sleeps still sees it at its next look.
+    /// Adds 1 to the count, modulo 2^64, and wakes those who sleep; whoever sleeps still sees it at
+    /// its next look.
     pub fn ring(&self) {
         self.count.fetch_add(1, Ordering::SeqCst);
         self.count.wake_all();
@@ -39,7 +40,8 @@ impl WaitRoom {
             if found != seen {
                 return found;
             }
-            // A sleep compares the low half of the count alone; its length bounds what that can't see.
+            // A sleep compares the low half of the count alone; its length bounds what that can't
+            // see.
             self.count
                 .park_timeout(rt, (seen & 0xffff_ffff) as u32, Duration::from_millis(1));
         }

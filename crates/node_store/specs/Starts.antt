@@ -10,7 +10,8 @@ use Rattle.record_store.specs.declared.error.NodeErr.TheVariants.{DiskFault, Bad
 
 -- no boot is left behind these records
 abbrev pub HasNoBoot : List Rec → ℕ → Type 0
-HasNoBoot recs index = (first_refused recs ≡ None) × (4294967294 ≤ (image_of recs).boot) × (index ≡ length recs)
+HasNoBoot recs index = (first_refused recs ≡ None) × (4294967294 ≤ (image_of recs).boot)
+    × (index ≡ length recs)
 
 -- the record of this number is the first that can't follow those before it, or no boot is left
 abbrev pub HasBadOrder : List Rec → ℕ → Type 0
@@ -22,7 +23,8 @@ RefusesRecords recs DiskFault = Unit {0}
 RefusesRecords recs (BadJournal index) = HasBadOrder recs index
 RefusesRecords recs Memory = Unit {0}
 
--- a start of a log: each record can follow those before it, and the record of the next boot stands behind them
+-- a start of a log: each record can follow those before it, and the record of the next boot stands
+-- behind them
 pub record Boots (old new : List Rec) (image : Image) : Type 0 where
   pub follow : first_refused old ≡ None
   pub left : (image_of old).boot < 4294967294
@@ -44,5 +46,6 @@ pub record HasBadRecords (file : List ℕ) (index : ℕ) : Type 0 where
 -- why a shard doesn't start from a file
 abbrev pub RefusesStart : Type 0 → List ℕ → NodeErr → Type 0
 RefusesStart told file DiskFault = Unit {0}
-RefusesStart told file (BadJournal index) = told → HasBadBytes file index ⊎ HasBadRecord file index ⊎ HasBadRecords file index
+RefusesStart told file (BadJournal index) = told
+    → HasBadBytes file index ⊎ HasBadRecord file index ⊎ HasBadRecords file index
 RefusesStart told file Memory = Unit {0}

@@ -43,7 +43,8 @@ pub fn append_all<L: RecordLog>(
         × (L.lost log.new ≡ L.lost log.old) × (L.is_closed log.new ≡ L.is_closed log.old)) }
     ensures err { OnErr result
         (IsCut (appends ceiling then) (L.kept log.old) (L.kept log.new) (L.lost log.new)) }
-    ensures faults { FailsOnly DiskErr.Failed (L.fault_count log.old) (L.fault_count log.new) result }
+    ensures faults { FailsOnly DiskErr.Failed (L.fault_count log.old)
+        (L.fault_count log.new) result }
 {
     if let Some(bound) = ceiling {
         log.append(Rec::Ceiling { bound }, payload)?;

@@ -17,14 +17,16 @@ use std::alloc::Global;
 /// The last boot but one: behind it no other can follow.
 const LAST_BOOT: u32 = 4_294_967_294;
 
-/// The state that the records of a log leave, and then the record of the next boot, which is appended.
+/// The state that the records of a log leave, and then the record of the next boot, which is
+/// appended.
 pub fn boot<L: RecordLog>(alloc: Global, log: &mut L) -> Result<Image, NodeErr>
     requires written { AreWritten (L.kept log.old) }
     requires open { L.is_closed log.old ≡ false }
     ensures boots { IfOk result (Boots (L.kept log.old) (L.kept log.new)) }
     ensures open { OnOk result ((L.is_closed log.new ≡ false) × (L.lost log.new ≡ L.lost log.old)) }
     ensures refused { IfErr result (RefusesRecords (L.kept log.old)) }
-    ensures faults { FailsOnly NodeErr.DiskFault (L.fault_count log.old) (L.fault_count log.new) result }
+    ensures faults { FailsOnly NodeErr.DiskFault (L.fault_count log.old)
+        (L.fault_count log.new) result }
 {
     match image_of(alloc, log.records()) {
         Ok(image) => boot_behind(alloc, log, image),
@@ -41,7 +43,8 @@ fn boot_behind<L: RecordLog>(alloc: Global, log: &mut L, image: Image) -> Result
     ensures boots { IfOk result (Boots (L.kept log.old) (L.kept log.new)) }
     ensures open { OnOk result ((L.is_closed log.new ≡ false) × (L.lost log.new ≡ L.lost log.old)) }
     ensures refused { IfErr result (RefusesRecords (L.kept log.old)) }
-    ensures faults { FailsOnly NodeErr.DiskFault (L.fault_count log.old) (L.fault_count log.new) result }
+    ensures faults { FailsOnly NodeErr.DiskFault (L.fault_count log.old)
+        (L.fault_count log.new) result }
 {
     let index = log.records().len() as u64;
     if image.boot >= LAST_BOOT {
@@ -75,7 +78,8 @@ fn append_boot<L: RecordLog>(alloc: Global, log: &mut L, rec: Rec) -> Result<(),
     requires bare { body_bytes rec ≡ [] }
     ensures ok { OnOk result ((L.kept log.new ≡ L.kept log.old ++ rec ∷ [])
         × (L.is_closed log.new ≡ false) × (L.lost log.new ≡ L.lost log.old)) }
-    ensures faults { FailsOnly NodeErr.DiskFault (L.fault_count log.old) (L.fault_count log.new) result }
+    ensures faults { FailsOnly NodeErr.DiskFault (L.fault_count log.old)
+        (L.fault_count log.new) result }
     ensures errors { IfErr result (λ e. (e ≡ NodeErr.DiskFault) ⊎ (e ≡ NodeErr.Memory)) }
 {
     let Ok(mut payload) = Payload::new(alloc) else {

@@ -1,4 +1,5 @@
-//! Nodes: a shard's core and its journal, whose records hold each step before anything of it is given out.
+//! Nodes: a shard's core and its journal, whose records hold each step before anything of it is
+//! given out.
 #![tactic(auto)]
 
 mod appending;

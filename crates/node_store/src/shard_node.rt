@@ -18,7 +18,8 @@ use std::marker::Model;
 use txn_types::{NodeAnswer, NodeEvent, Ts};
 use version_store::Held;
 
-/// A shard's node: its core, the log of its records, and what was resolved before a step whose append failed.
+/// A shard's node: its core, the log of its records, and what was resolved before a step whose
+/// append failed.
 #[derive(Drop)]
 pub struct ShardNode<L: RecordLog> {
     alloc: Global,
@@ -76,8 +77,8 @@ fn stop<L: RecordLog>(core: &mut Shard, log: &L)
 }
 
 impl<L: RecordLog> ShardNode<L> {
-    /// Starts the shard of this number from the records of a log, to which the record of the next boot is appended. A
-    /// refusal gives the log back.
+    /// Starts the shard of this number from the records of a log, to which the record of the next
+    /// boot is appended. A refusal gives the log back.
     pub fn over(alloc: Global, shard: u16, log: L) -> Result<ShardNode<L>, (NodeErr, L)>
         requires written { AreWritten (L.kept log) }
         requires open { L.is_closed log ≡ false }
@@ -100,8 +101,8 @@ impl<L: RecordLog> ShardNode<L> {
         }
     }
 
-    /// What is resolved at the shard, below which no commit comes any more; behind a step whose append failed, what was
-    /// resolved before it.
+    /// What is resolved at the shard, below which no commit comes any more; behind a step whose
+    /// append failed, what was resolved before it.
     pub fn resolved(&self) -> Ts
         ensures { result ≡ resolved_at self.now.node }
     {
@@ -172,11 +173,13 @@ impl<L: RecordLog> Journalled for ShardNode<L> {
 }
 
 impl<D: Disk> ShardNode<DiskLog<D>> {
-    /// Starts the shard of this number from the journal on a disk. A refusal gives the disk back; what the start has
-    /// appended by then stays.
+    /// Starts the shard of this number from the journal on a disk. A refusal gives the disk back;
+    /// what the start has appended by then stays.
     pub fn start(alloc: Global, shard: u16, disk: D) -> Result<ShardNode<DiskLog<D>>, (NodeErr, D)>
-        ensures starts { IfOk result (λ n. StartsFrom shard (IsTrue (D.tells disk)) (D.seen disk) n.node) }
-        ensures refused { IfErr result (λ e. RefusesStart (IsTrue (D.tells disk)) (D.seen disk) e.0) }
+        ensures starts { IfOk result
+            (λ n. StartsFrom shard (IsTrue (D.tells disk)) (D.seen disk) n.node) }
+        ensures refused { IfErr result
+            (λ e. RefusesStart (IsTrue (D.tells disk)) (D.seen disk) e.0) }
         ensures later { IfOk result (λ n. D.fault_count disk ≤ n.node.faults) }
         ensures fault { IfErr result (λ e.
             e.0 ≡ NodeErr.DiskFault → Rose (D.fault_count disk) (D.fault_count e.1)) }
@@ -195,7 +198,8 @@ impl<D: Disk> ShardNode<DiskLog<D>> {
         ensures disk { result ≡ self.log.journal.disk }
         ensures faults { D.fault_count result ≡ self.node.faults }
         ensures hand { self.node.hand ≡ listed self.log.hand }
-        ensures left { IsTrue (D.tells result) → LeftOf (D.may_leave result) self.node.records self.log.hand }
+        ensures left { IsTrue (D.tells result)
+            → LeftOf (D.may_leave result) self.node.records self.log.hand }
     {
         let ShardNode { log, .. } = self;
         log.into_disk()

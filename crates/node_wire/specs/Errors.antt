@@ -1,5 +1,6 @@
 -- What a reader of node messages gives, and what a writer does.
-use Rattle.std.specs.Prelude.{◌≡◌, ◌<◌, ◌≤◌, ℕ, Bool, true, false, List, ◌++◌, length, Result, Ok, Err}
+use Rattle.std.specs.Prelude.{◌≡◌, ◌<◌, ◌≤◌, ℕ, Bool, true, false, List, ◌++◌, length, Result, Ok}
+use Rattle.std.specs.Prelude.{Err}
 use Rattle.op_msg.specs.Limits.{most_internal}
 use Rattle.outcomes.specs.Outcome as outcome
 use Rattle.bson_core.specs.declared.error.BsonErr.{BsonErr}
@@ -27,7 +28,8 @@ Gives view result defined = outcome.Gives is_memory view result defined
 abbrev pub most : ℕ
 most = most_internal
 
--- what is made of node messages: this frame, whose message isn't too long; or it would be, or memory ran out
+-- what is made of node messages: this frame, whose message isn't too long; or it would be, or
+-- memory ran out
 abbrev pub Makes : Frame → Result Frame WireErr → Type 0
 Makes frame (Ok made) = (made ≡ frame) × (length (message frame) ≤ most)
 Makes frame (Err TooLarge) = most < length (message frame)

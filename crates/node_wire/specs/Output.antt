@@ -1,6 +1,8 @@
--- What was written of the bytes `b` of a message: a message has at most 400,000,000 bytes, and beside `b` it has 56, which
--- are 16 of the header, 4 of flags, 1 of the section's kind and 35 of the body.
-use Rattle.std.specs.Prelude.{ℕ, List, [], ◌∷◌, ◌++◌, length, nat_lt, Option, Some, None, if◌then◌else◌}
+-- What was written of the bytes `b` of a message: a message has at most 400,000,000 bytes, and
+-- beside `b` it has 56, which are 16 of the header, 4 of flags, 1 of the section's kind and 35 of
+-- the body.
+use Rattle.std.specs.Prelude.{ℕ, List, [], ◌∷◌, ◌++◌, length, nat_lt, Option, Some, None}
+use Rattle.std.specs.Prelude.{if◌then◌else◌}
 
 abbrev pub most_content : ℕ
 most_content = 399999944

@@ -1,7 +1,10 @@
--- Reading the bytes of node messages front to back, as functions on lists: a field and the bytes behind it, or the place of
--- the first byte of the field that can't be read. `end` is the place behind the bytes, so those that are left begin at the
--- place `end - length bytes`.
-use Rattle.std.specs.Prelude.{ℕ, ℤ, pos, zero, suc, ◌+◌, ◌-◌, ◌==◌, ◌&&◌, ◌||◌, Bool, true, false, not, List, [], ◌∷◌, ◌++◌, length, take, drop, position, nat_lt, nat_le, is_some, Option, Some, None, option_and_then, Result, Ok, Err, codes, if◌then◌else◌}
+-- Reading the bytes of node messages front to back, as functions on lists: a field and the bytes
+-- behind it, or the place of the first byte of the field that can't be read. `end` is the place
+-- behind the bytes, so those that are left begin at the place `end - length bytes`.
+use Rattle.std.specs.Prelude.{ℕ, ℤ, pos, zero, suc, ◌+◌, ◌-◌, ◌==◌, ◌&&◌, ◌||◌, Bool, true, false}
+use Rattle.std.specs.Prelude.{not, List, [], ◌∷◌, ◌++◌, length, take, drop, position, nat_lt}
+use Rattle.std.specs.Prelude.{nat_le, is_some, Option, Some, None, option_and_then, Result, Ok, Err}
+use Rattle.std.specs.Prelude.{codes, if◌then◌else◌}
 use Rattle.std.specs.List.{position_or_len, before_first, after_first}
 use Rattle.std.specs.Int.{Width, w16, w32, w64, cast_signed}
 use Rattle.std.specs.Str.{is_utf8, bytes_eq}
@@ -87,7 +90,8 @@ signed_at end bytes = number_of w64 end bytes >>= λ n. Ok (cast_signed w64 n.0,
 
 -- so many bytes
 unfoldable pub bytes_of : ℕ → ℕ → List ℕ → Found (List ℕ)
-bytes_of n end bytes = if nat_lt (length bytes) n then Err (Field (place end bytes)) else Ok (take n bytes, drop n bytes)
+bytes_of n end bytes = if nat_lt (length bytes) n then Err (Field (place end bytes))
+    else Ok (take n bytes, drop n bytes)
 
 -- so many zeros, each a field: the first byte that is none, or isn't there, is the fault
 abbrev pub zeros_by : ℕ → Option ℕ → Result (List ℕ) WireErr → Result (List ℕ) WireErr
@@ -96,11 +100,14 @@ zeros_by at (Some n) rest = Err (Field (at + n))
 
 unfoldable pub zeros_at : ℕ → ℕ → List ℕ → Result (List ℕ) WireErr
 zeros_at n end bytes =
-    zeros_by (place end bytes) (position (λ b. not (b == 0)) (take n bytes)) (if nat_lt (length bytes) n then Err (Field end) else Ok (drop n bytes))
+    zeros_by (place end bytes) (position (λ b. not (b == 0)) (take n bytes))
+    (if nat_lt (length bytes) n then Err (Field end) else Ok (drop n bytes))
 
--- a count or a length, which no more bytes follow than it says: each thing that is counted has a byte
+-- a count or a length, which no more bytes follow than it says: each thing that is counted has a
+-- byte
 unfoldable pub count_at : ℕ → List ℕ → Found ℕ
-count_at end bytes = number_of w32 end bytes >>= λ n. if nat_lt (length n.1) n.0 then Err (Field (place end bytes)) else Ok n
+count_at end bytes = number_of w32 end bytes >>= λ n. if nat_lt (length n.1) n.0
+    then Err (Field (place end bytes)) else Ok n
 
 -- a byte that is 0 or 1
 abbrev pub flag_of : ℕ → Option Bool
@@ -134,7 +141,8 @@ is_name bytes = is_utf8 bytes && has_no_zero bytes
 abbrev pub is_namespace : List ℕ → Bool
 is_namespace bytes =
     is_utf8 bytes && nat_lt (position_or_len (λ b. b == 46) bytes) (length bytes)
-    && is_database (before_first (λ b. b == 46) bytes) && is_collection (after_first (λ b. b == 46) bytes)
+    && is_database (before_first (λ b. b == 46) bytes)
+    && is_collection (after_first (λ b. b == 46) bytes)
 
 -- Documents, values and ids.
 
@@ -147,7 +155,8 @@ unfoldable pub document_at : ℕ → List ℕ → Found Document
 document_at end bytes = do
   n ← number_of w32 end bytes
   if nat_lt (length bytes) n.0 then Err (Field (place end bytes)) else
-      (as_field (place end bytes) (document_of most_internal (take n.0 bytes)) >>= λ doc. Ok (doc, drop n.0 bytes))
+      (as_field (place end bytes) (document_of most_internal (take n.0 bytes))
+      >>= λ doc. Ok (doc, drop n.0 bytes))
 
 -- the value of a document that has one field, of this name
 abbrev pub only_under : List ℕ → Document → Option Value
@@ -169,7 +178,8 @@ long_id other value = id_of value
 unfoldable pub id_at : ℕ → List ℕ → Found Id
 id_at end bytes = do
   doc ← document_at end bytes
-  id ← or_field (place end bytes) (option_and_then (λ v. long_id (out-Value v) v) (only_under id_name doc.0))
+  id ← or_field (place end bytes)
+      (option_and_then (λ v. long_id (out-Value v) v) (only_under id_name doc.0))
   Ok (id, doc.1)
 
 -- Transactions and nodes.
@@ -193,7 +203,8 @@ own_at end bytes = do
   Ok (Own router.0 boot.0 conn.0, rest)
 
 unfoldable pub lsid_at : ℕ → List ℕ → Found Lsid
-lsid_at end bytes = code_at flag_of end bytes >>= λ own. if own.0 then own_at end own.1 else client_at end own.1
+lsid_at end bytes = code_at flag_of end bytes >>= λ own. if own.0 then own_at end own.1
+    else client_at end own.1
 
 abbrev pub Named : Type 0
 Named = Tag × Lsid × ℤ
@@ -235,7 +246,8 @@ abbrev pub one_to : ℕ → ℕ → Option ℕ
 one_to n byte = if nat_le 1 byte && nat_le byte n then Some byte else None
 
 unfoldable pub decision_at : ℕ → List ℕ → Found Decision
-decision_at end bytes = code_at (one_to 2) end bytes >>= λ way. if way.0 == 1 then committed_at end way.1 else aborted_at end way.1
+decision_at end bytes = code_at (one_to 2) end bytes >>= λ way. if way.0 == 1
+    then committed_at end way.1 else aborted_at end way.1
 
 unfoldable pub part_at : ℕ → List ℕ → Found (ℕ × ℕ)
 part_at end bytes = do
@@ -251,10 +263,12 @@ parts_at end bytes = number_of w16 end bytes >>= λ n. each_at (part_at end) n.0
 abbrev pub cmp_of : ℕ → Option Cmp
 cmp_of byte =
     if byte == 1 then Some Eq else (if byte == 2 then Some Ne else (if byte == 3 then Some Gt else
-    (if byte == 4 then Some Gte else (if byte == 5 then Some Lt else (if byte == 6 then Some Lte else None)))))
+    (if byte == 4 then Some Gte
+    else (if byte == 5 then Some Lt else (if byte == 6 then Some Lte else None)))))
 
 -- filters that are joined
-unfoldable pub joined_at : (List ℕ → Found Filter) → (List Filter → Filter) → ℕ → List ℕ → Found Filter
+unfoldable pub joined_at : (List ℕ → Found Filter) → (List Filter → Filter) → ℕ → List ℕ
+    → Found Filter
 joined_at read join end bytes = counted_at read end bytes >>= λ x. Ok (join x.0, x.1)
 
 unfoldable pub test_at : ℕ → List ℕ → Found Filter
@@ -289,14 +303,16 @@ filter_by read kind end bytes =
 -- with so many levels left, itself included
 unfoldable pub filter_at : ℕ → ℕ → List ℕ → Found Filter
 filter_at zero end bytes = Err (Field (place end bytes))
-filter_at (suc levels) end bytes = code_at (one_to 7) end bytes >>= λ kind. filter_by (filter_at levels end) kind.0 end kind.1
+filter_at (suc levels) end bytes =
+    code_at (one_to 7) end bytes >>= λ kind. filter_by (filter_at levels end) kind.0 end kind.1
 
 -- A command's document has at most 100 levels, and its filter at most two for each of them.
 abbrev pub filter_levels : ℕ
 filter_levels = 200
 
 abbrev pub update_kind_of : ℕ → Option UpdateKind
-update_kind_of byte = if byte == 1 then Some kind.Set else (if byte == 2 then Some kind.Unset else (if byte == 3 then Some kind.Inc else None))
+update_kind_of byte = if byte == 1 then Some kind.Set
+    else (if byte == 2 then Some kind.Unset else (if byte == 3 then Some kind.Inc else None))
 
 -- what is taken out has null
 abbrev pub may_have : UpdateKind → Value-F Value → Bool
@@ -309,7 +325,9 @@ update_op_at end bytes = do
   kind ← code_at update_kind_of end bytes
   name ← text_at is_name end kind.1
   v ← value_at end name.1
-  if may_have kind.0 (out-Value v.0) then Ok (record { kind = kind.0; name = name.0; value = v.0 }, v.1) else Err (Field (place end name.1))
+  if may_have kind.0 (out-Value v.0)
+      then Ok (record { kind = kind.0; name = name.0; value = v.0 }, v.1)
+      else Err (Field (place end name.1))
 
 abbrev pub replace_at : ℕ → List ℕ → Found Update
 replace_at end bytes = document_at end bytes >>= λ x. Ok (update.Replace x.0, x.1)
@@ -318,14 +336,16 @@ abbrev pub ops_at : ℕ → List ℕ → Found Update
 ops_at end bytes = counted_at (update_op_at end) end bytes >>= λ x. Ok (update.Ops x.0, x.1)
 
 unfoldable pub update_at : ℕ → List ℕ → Found Update
-update_at end bytes = code_at (one_to 2) end bytes >>= λ kind. if kind.0 == 1 then replace_at end kind.1 else ops_at end kind.1
+update_at end bytes = code_at (one_to 2) end bytes >>= λ kind. if kind.0 == 1
+    then replace_at end kind.1 else ops_at end kind.1
 
 -- a document to insert has an id
 unfoldable pub insert_item_at : ℕ → List ℕ → Found InsertItem
 insert_item_at end bytes = do
   index ← number_of w32 end bytes
   doc ← document_at end index.1
-  if is_some (id_in doc.0) then Ok (record { index = index.0; doc = doc.0 }, doc.1) else Err (Field (place end index.1))
+  if is_some (id_in doc.0) then Ok (record { index = index.0; doc = doc.0 }, doc.1)
+      else Err (Field (place end index.1))
 
 unfoldable pub update_item_at : ℕ → List ℕ → Found UpdateItem
 update_item_at end bytes = do
@@ -352,9 +372,11 @@ find_at ns end bytes = do
 -- the operation of this kind on this collection
 unfoldable pub op_by : ℕ → List ℕ → ℕ → List ℕ → Found Op
 op_by kind ns end bytes =
-    if kind == 1 then (counted_at (insert_item_at end) end bytes >>= λ x. Ok (op.Insert ns x.0, x.1)) else
+    if kind == 1
+    then (counted_at (insert_item_at end) end bytes >>= λ x. Ok (op.Insert ns x.0, x.1)) else
     (if kind == 2 then find_at ns end bytes else
-    (if kind == 3 then (counted_at (update_item_at end) end bytes >>= λ x. Ok (op.Update ns x.0, x.1)) else
+    (if kind == 3
+    then (counted_at (update_item_at end) end bytes >>= λ x. Ok (op.Update ns x.0, x.1)) else
     (counted_at (delete_item_at end) end bytes >>= λ x. Ok (op.Delete ns x.0, x.1))))
 
 unfoldable pub op_at : ℕ → List ℕ → Found Op
@@ -382,11 +404,13 @@ rows_at end bytes = do
   Ok (reply.Rows docs.0 cut.0, cut.1)
 
 unfoldable pub reply_at : ℕ → List ℕ → Found OpReply
-reply_at end bytes = code_at (one_to 2) end bytes >>= λ kind. if kind.0 == 1 then number_reply_at end kind.1 else rows_at end kind.1
+reply_at end bytes = code_at (one_to 2) end bytes >>= λ kind. if kind.0 == 1
+    then number_reply_at end kind.1 else rows_at end kind.1
 
 abbrev pub what_of : ℕ → Option What
 what_of byte =
-    if byte == 1 then Some what.Duplicate else (if byte == 2 then Some what.NotNumber else (if byte == 3 then Some what.Overflow else
+    if byte == 1 then Some what.Duplicate
+    else (if byte == 2 then Some what.NotNumber else (if byte == 3 then Some what.Overflow else
     (if byte == 4 then Some what.Immutable else (if byte == 5 then Some what.TooLarge else None))))
 
 unfoldable pub op_err_at : ℕ → List ℕ → Found OpErr
@@ -398,7 +422,8 @@ op_err_at end bytes = do
 
 unfoldable pub by_at : ℕ → List ℕ → Found By
 by_at end bytes = code_at (one_to 2) end bytes >>= λ kind.
-    if kind.0 == 1 then (tag_at end kind.1 >>= λ tag. Ok (by.Tag tag.0, tag.1)) else (number_of w64 end kind.1 >>= λ at. Ok (by.At at.0, at.1))
+    if kind.0 == 1 then (tag_at end kind.1 >>= λ tag. Ok (by.Tag tag.0, tag.1))
+    else (number_of w64 end kind.1 >>= λ at. Ok (by.At at.0, at.1))
 
 unfoldable pub conflict_at : ℕ → List ℕ → Found Cause
 conflict_at end bytes = do
@@ -443,7 +468,8 @@ cause_by number end bytes =
     (if number == 10 then (tag_at end bytes >>= λ tag. Ok (cause.PreparedStands tag.0, tag.1)) else
     (if number == 11 then Ok (cause.TooManySessions, bytes) else
     (if number == 12 then voted_at end bytes else
-    (if number == 13 then Ok (cause.Memory, bytes) else pair_at w64 cause.SnapshotTooOld end bytes))))))))))))
+    (if number == 13 then Ok (cause.Memory, bytes)
+    else pair_at w64 cause.SnapshotTooOld end bytes))))))))))))
 
 unfoldable pub cause_at : ℕ → List ℕ → Found Cause
 cause_at end bytes = code_at (one_to 14) end bytes >>= λ number. cause_by number.0 end number.1
@@ -460,14 +486,16 @@ outcome_at end bytes = code_at flag_of end bytes >>= λ ok.
 
 unfoldable pub vote_at : ℕ → List ℕ → Found (Result ℕ Cause)
 vote_at end bytes = code_at flag_of end bytes >>= λ ok.
-    if ok.0 then (number_of w64 end ok.1 >>= λ at. Ok (Ok at.0, at.1)) else (cause_at end ok.1 >>= λ c. Ok (Err c.0, c.1))
+    if ok.0 then (number_of w64 end ok.1 >>= λ at. Ok (Ok at.0, at.1))
+    else (cause_at end ok.1 >>= λ c. Ok (Err c.0, c.1))
 
 unfoldable pub told_at : ℕ → List ℕ → Found Told
 told_at end bytes = code_at (one_to 5) end bytes >>= λ kind.
     if kind.0 == 1 then (number_of w64 end kind.1 >>= λ at. Ok (told.Committed at.0, at.1)) else
     (if kind.0 == 2 then Ok (told.Released, kind.1) else
     (if kind.0 == 3 then (cause_at end kind.1 >>= λ c. Ok (told.Aborted c.0, c.1)) else
-    (if kind.0 == 4 then (signed_at end kind.1 >>= λ have. Ok (told.TooOld have.0, have.1)) else Ok (told.NoTrace, kind.1))))
+    (if kind.0 == 4 then (signed_at end kind.1 >>= λ have. Ok (told.TooOld have.0, have.1))
+    else Ok (told.NoTrace, kind.1))))
 
 -- Messages.
 
@@ -478,7 +506,18 @@ statement_at end bytes = do
   read_at ← number_of w64 end k.1
   boot ← number_of w32 end read_at.1
   op ← op_at end boot.1
-  Ok (msg.Statement (record { tag = named.0.0; lsid = named.0.1; number = named.0.2; k = k.0; read_at = read_at.0; boot = boot.0; op = op.0 }), op.1)
+  Ok (
+    msg.Statement (record {
+      tag = named.0.0;
+      lsid = named.0.1;
+      number = named.0.2;
+      k = k.0;
+      read_at = read_at.0;
+      boot = boot.0;
+      op = op.0;
+    }),
+    op.1,
+  )
 
 unfoldable pub answer_at : ℕ → List ℕ → Found Msg
 answer_at end bytes = do
@@ -488,7 +527,17 @@ answer_at end bytes = do
   boot ← number_of w32 end shard.1
   read_at ← number_of w64 end boot.1
   outcome ← outcome_at end read_at.1
-  Ok (msg.Answer (record { tag = tag.0; k = k.0; shard = shard.0; boot = boot.0; read_at = read_at.0; outcome = outcome.0 }), outcome.1)
+  Ok (
+    msg.Answer (record {
+      tag = tag.0;
+      k = k.0;
+      shard = shard.0;
+      boot = boot.0;
+      read_at = read_at.0;
+      outcome = outcome.0;
+    }),
+    outcome.1,
+  )
 
 -- a transaction, and the boot of the shard that it is sent to
 unfoldable pub named_boot_at : ℕ → List ℕ → Found (Named × ℕ)
@@ -513,19 +562,35 @@ unfoldable pub abort_at : ℕ → List ℕ → Found Msg
 abort_at end bytes = do
   named ← named_at end bytes
   why ← byte_at end named.1
-  Ok (msg.Abort (record { tag = named.0.0; lsid = named.0.1; number = named.0.2; why = why.0 }), why.1)
+  Ok (
+    msg.Abort (record { tag = named.0.0; lsid = named.0.1; number = named.0.2; why = why.0 }),
+    why.1,
+  )
 
 unfoldable pub commit_two_at : ℕ → List ℕ → Found Msg
 commit_two_at end bytes = do
   x ← named_boot_at end bytes
   parts ← parts_at end x.1
-  Ok (msg.CommitTwo (record { tag = x.0.0.0; lsid = x.0.0.1; number = x.0.0.2; boot = x.0.1; parts = parts.0 }), parts.1)
+  Ok (
+    msg.CommitTwo
+        (record { tag = x.0.0.0; lsid = x.0.0.1; number = x.0.0.2; boot = x.0.1; parts = parts.0 }),
+    parts.1,
+  )
 
 unfoldable pub prepare_at : ℕ → List ℕ → Found Msg
 prepare_at end bytes = do
   x ← named_boot_at end bytes
   coordinator ← number_of w16 end x.1
-  Ok (msg.Prepare (record { tag = x.0.0.0; lsid = x.0.0.1; number = x.0.0.2; boot = x.0.1; coordinator = coordinator.0 }), coordinator.1)
+  Ok (
+    msg.Prepare (record {
+      tag = x.0.0.0;
+      lsid = x.0.0.1;
+      number = x.0.0.2;
+      boot = x.0.1;
+      coordinator = coordinator.0;
+    }),
+    coordinator.1,
+  )
 
 unfoldable pub vote_msg_at : ℕ → List ℕ → Found Msg
 vote_msg_at end bytes = do
@@ -538,7 +603,11 @@ unfoldable pub decide_at : ℕ → List ℕ → Found Msg
 decide_at end bytes = do
   named ← named_at end bytes
   decision ← decision_at end named.1
-  Ok (msg.Decide (record { tag = named.0.0; lsid = named.0.1; number = named.0.2; decision = decision.0 }), decision.1)
+  Ok (
+    msg.Decide
+        (record { tag = named.0.0; lsid = named.0.1; number = named.0.2; decision = decision.0 }),
+    decision.1,
+  )
 
 unfoldable pub acked_at : ℕ → List ℕ → Found Msg
 acked_at end bytes = do
@@ -583,7 +652,8 @@ envelope_of kind end bytes = do
 
 -- the length of an envelope in a batch, behind which its kind and as many bytes follow
 unfoldable pub length_at : ℕ → List ℕ → Found ℕ
-length_at end bytes = number_of w32 end bytes >>= λ n. if nat_lt n.0 (length n.1) then Ok n else Err (Field (place end bytes))
+length_at end bytes = number_of w32 end bytes >>= λ n. if nat_lt n.0 (length n.1) then Ok n
+    else Err (Field (place end bytes))
 
 -- an envelope in a batch: the length of its bytes, its kind, and its bytes
 unfoldable pub batched_at : ℕ → List ℕ → Found Envelope
@@ -594,7 +664,8 @@ batched_at end bytes = do
   Ok (e, drop n.0 kind.1)
 
 unfoldable pub batch_of : List ℕ → Result (List Envelope) WireErr
-batch_of bytes = counted_at (batched_at (length bytes)) (length bytes) bytes >>= λ x. whole (length bytes) x.0 x.1
+batch_of bytes = counted_at (batched_at (length bytes)) (length bytes) bytes
+    >>= λ x. whole (length bytes) x.0 x.1
 
 -- Frames.
 
@@ -614,7 +685,8 @@ content_by other kind bytes = None
 
 abbrev pub content_of : Document → Option (ℕ × List ℕ)
 content_of (a ∷ b ∷ c ∷ []) =
-    content_by (bytes_eq a.0 (codes "mtx") && bytes_eq b.0 (codes "$db") && bytes_eq c.0 (codes "b") && is_text (codes "mtx") (out-Value b.1))
+    content_by (bytes_eq a.0 (codes "mtx") && bytes_eq b.0 (codes "$db") && bytes_eq c.0 (codes "b")
+    && is_text (codes "mtx") (out-Value b.1))
     (kind_in (out-Value a.1)) (bytes_in (out-Value c.1))
 content_of other = None
 

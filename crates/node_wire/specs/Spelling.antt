@@ -1,9 +1,11 @@
--- The bytes of node messages, a layout of this project (docs/formats/NODES.md). All numbers are little-endian.
+-- The bytes of node messages, a layout of this project (docs/formats/NODES.md). All numbers are
+-- little-endian.
 --
--- A message between nodes is an OP_MSG whose body has three fields: `mtx`, the number of its kind; `$db`, the text "mtx";
--- and `b`, a binary of subtype 0 with the bytes that are defined here. An envelope has its message's kind, from 1 to 12; a
--- batch of envelopes has kind 0.
-use Rattle.std.specs.Prelude.{ℕ, ℤ, pos, Bool, true, false, List, [], ◌∷◌, ◌++◌, length, Option, Some, None, Result, Ok, Err, codes}
+-- A message between nodes is an OP_MSG whose body has three fields: `mtx`, the number of its kind;
+-- `$db`, the text "mtx"; and `b`, a binary of subtype 0 with the bytes that are defined here. An
+-- envelope has its message's kind, from 1 to 12; a batch of envelopes has kind 0.
+use Rattle.std.specs.Prelude.{ℕ, ℤ, pos, Bool, true, false, List, [], ◌∷◌, ◌++◌, length, Option}
+use Rattle.std.specs.Prelude.{Some, None, Result, Ok, Err, codes}
 use Rattle.std.specs.List.{flat_map}
 use Rattle.std.specs.Int.{w16, w32, w64, to_le_bytes, cast_unsigned}
 use Rattle.bson_core.specs.declared.value.Value.{Value}
@@ -91,7 +93,8 @@ tag_bytes tag = half tag.router ++ word tag.boot ++ long tag.serial
 unfoldable pub own_bytes : ℕ → ℕ → ℕ → List ℕ
 own_bytes router boot conn = half router ++ word boot ++ word conn
 
--- a 0 and the 16 bytes of a client's session; or a 1, the numbers of an own one, and 6 zeros: 17 bytes
+-- a 0 and the 16 bytes of a client's session; or a 1, the numbers of an own one, and 6 zeros: 17
+-- bytes
 unfoldable pub lsid_bytes : Lsid → List ℕ
 lsid_bytes (Client bytes) = 0 ∷ bytes
 lsid_bytes (Own router boot conn) = 1 ∷ own_bytes router boot conn ++ 0 ∷ 0 ∷ 0 ∷ 0 ∷ 0 ∷ 0 ∷ []
@@ -105,10 +108,12 @@ abbrev pub node_bytes : NodeId → List ℕ
 node_bytes (Shard number) = 0 ∷ half number
 node_bytes (Router number) = 1 ∷ half number
 
--- a 1, the time and three zeros; or a 2, eight zeros, the shard and the number of the cause: 12 bytes
+-- a 1, the time and three zeros; or a 2, eight zeros, the shard and the number of the cause: 12
+-- bytes
 unfoldable pub decision_bytes : Decision → List ℕ
 decision_bytes (decision.Commit at) = 1 ∷ long at ++ 0 ∷ 0 ∷ 0 ∷ []
-decision_bytes (decision.Abort shard code) = 2 ∷ 0 ∷ 0 ∷ 0 ∷ 0 ∷ 0 ∷ 0 ∷ 0 ∷ 0 ∷ half shard ++ code ∷ []
+decision_bytes (decision.Abort shard code) =
+    2 ∷ 0 ∷ 0 ∷ 0 ∷ 0 ∷ 0 ∷ 0 ∷ 0 ∷ 0 ∷ half shard ++ code ∷ []
 
 -- a shard and its boot
 unfoldable pub part_bytes : ℕ × ℕ → List ℕ
@@ -157,14 +162,16 @@ abbrev pub insert_item_bytes : InsertItem → List ℕ
 insert_item_bytes item = word item.index ++ spelling item.doc
 
 abbrev pub update_item_bytes : UpdateItem → List ℕ
-update_item_bytes item = word item.index ++ filter_bytes item.filter ++ update_bytes item.update ++ bit item.many ∷ []
+update_item_bytes item =
+    word item.index ++ filter_bytes item.filter ++ update_bytes item.update ++ bit item.many ∷ []
 
 abbrev pub delete_item_bytes : DeleteItem → List ℕ
 delete_item_bytes item = word item.index ++ filter_bytes item.filter ++ bit item.many ∷ []
 
 abbrev pub op_bytes : Op → List ℕ
 op_bytes (op.Insert ns docs) = 1 ∷ text_bytes ns ++ counted insert_item_bytes docs
-op_bytes (op.Find ns filter down limit) = 2 ∷ text_bytes ns ++ filter_bytes filter ++ bit down ∷ long limit
+op_bytes (op.Find ns filter down limit) =
+    2 ∷ text_bytes ns ++ filter_bytes filter ++ bit down ∷ long limit
 op_bytes (op.Update ns items) = 3 ∷ text_bytes ns ++ counted update_item_bytes items
 op_bytes (op.Delete ns items) = 4 ∷ text_bytes ns ++ counted delete_item_bytes items
 
@@ -247,12 +254,15 @@ msg_kind (msg.Recover m) = 11
 msg_kind msg.Nudge = 12
 
 abbrev pub msg_bytes : Msg → List ℕ
-msg_bytes (msg.Statement m) = named_bytes m.tag m.lsid m.number ++ word m.k ++ long m.read_at ++ word m.boot ++ op_bytes m.op
-msg_bytes (msg.Answer m) = tag_bytes m.tag ++ word m.k ++ half m.shard ++ word m.boot ++ long m.read_at ++ outcome_bytes m.outcome
+msg_bytes (msg.Statement m) =
+    named_bytes m.tag m.lsid m.number ++ word m.k ++ long m.read_at ++ word m.boot ++ op_bytes m.op
+msg_bytes (msg.Answer m) = tag_bytes m.tag ++ word m.k ++ half m.shard ++ word m.boot
+    ++ long m.read_at ++ outcome_bytes m.outcome
 msg_bytes (msg.Commit m) = named_bytes m.tag m.lsid m.number ++ word m.boot
 msg_bytes (msg.Outcome m) = tag_bytes m.tag ++ half m.shard ++ word m.boot ++ told_bytes m.told
 msg_bytes (msg.Abort m) = named_bytes m.tag m.lsid m.number ++ m.why ∷ []
-msg_bytes (msg.CommitTwo m) = named_bytes m.tag m.lsid m.number ++ word m.boot ++ parts_bytes m.parts
+msg_bytes (msg.CommitTwo m) =
+    named_bytes m.tag m.lsid m.number ++ word m.boot ++ parts_bytes m.parts
 msg_bytes (msg.Prepare m) = named_bytes m.tag m.lsid m.number ++ word m.boot ++ half m.coordinator
 msg_bytes (msg.Vote m) = tag_bytes m.tag ++ half m.shard ++ vote_bytes m.vote
 msg_bytes (msg.Decide m) = named_bytes m.tag m.lsid m.number ++ decision_bytes m.decision
@@ -280,7 +290,14 @@ body_of kind bytes =
     ∷ (codes "b", value.Bin (record { subtype = 0; bytes = bytes })) ∷ []
 
 abbrev pub frame_of : ℕ → List ℕ → Frame
-frame_of kind bytes = record { request_id = pos 0; response_to = pos 0; legacy = false; more = false; body = body_of kind bytes; seqs = [] }
+frame_of kind bytes = record {
+  request_id = pos 0;
+  response_to = pos 0;
+  legacy = false;
+  more = false;
+  body = body_of kind bytes;
+  seqs = [];
+}
 
 -- the one spelling of an envelope, and of a batch
 abbrev pub envelope_frame : Envelope → Frame

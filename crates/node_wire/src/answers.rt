@@ -41,7 +41,8 @@ fn read_each_document(
     end: u64,
     bytes: &[u8],
 ) -> Result<(Vec<Doc>, &[u8]), WireErr>
-    ensures { Gives (λ x. (x.0.items, x.1.now)) result (each_at (document_at end) count [] bytes.now) }
+    ensures { Gives (λ x. (x.0.items, x.1.now)) result
+        (each_at (document_at end) count [] bytes.now) }
 {
     let mut docs = Vec::new(alloc);
     let mut rest = bytes;

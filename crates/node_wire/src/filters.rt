@@ -105,7 +105,8 @@ fn read_each_filter(
     end: u64,
     bytes: &[u8],
 ) -> Result<(Vec<Filter>, &[u8]), WireErr>
-    ensures { Gives (λ x. (x.0.items, x.1.now)) result (each_at (filter_at levels end) count [] bytes.now) }
+    ensures { Gives (λ x. (x.0.items, x.1.now)) result
+        (each_at (filter_at levels end) count [] bytes.now) }
 {
     let mut filters = Vec::new(alloc);
     let mut rest = bytes;
@@ -142,7 +143,8 @@ fn read_filter_by(
     end: u64,
     bytes: &[u8],
 ) -> Result<(Filter, &[u8]), WireErr>
-    ensures { Gives (λ x. (x.0, x.1.now)) result (filter_by (filter_at levels end) kind end bytes.now) }
+    ensures { Gives (λ x. (x.0, x.1.now)) result
+        (filter_by (filter_at levels end) kind end bytes.now) }
 {
     match kind {
         1 => {

@@ -30,7 +30,8 @@ fn kind_in(value: &Value) -> Option<u32>
 
 /// The bytes of a binary of subtype 0.
 fn bytes_in(value: &Value) -> Option<&[u8]>
-    ensures { MatchOption result (bytes_in (out-Value value.now) ≡ None) (λ b. bytes_in (out-Value value.now) ≡ Some b.now) }
+    ensures { MatchOption result (bytes_in (out-Value value.now) ≡ None)
+        (λ b. bytes_in (out-Value value.now) ≡ Some b.now) }
 {
     match value {
         Value::Bin(bin) => {
@@ -55,7 +56,8 @@ fn is_mtx(value: &Value) -> bool
 
 /// The kind and the bytes that a body holds, where it has the three fields.
 fn content_of(body: &Doc) -> Option<(u32, &[u8])>
-    ensures { MatchOption result (content_of body.now ≡ None) (λ x. content_of body.now ≡ Some (x.0, x.1.now)) }
+    ensures { MatchOption result (content_of body.now ≡ None)
+        (λ x. content_of body.now ≡ Some (x.0, x.1.now)) }
 {
     match body.as_slice() {
         [(first, kind), (second, database), (third, content)] => {
@@ -94,7 +96,8 @@ fn envelope_kind(number: u32) -> Result<u8, WireErr>
     }
 }
 
-/// The envelope that a frame holds. The place of a field that can't be read counts from the first byte of `b`.
+/// The envelope that a frame holds. The place of a field that can't be read counts from the first
+/// byte of `b`.
 #[tactic(auto, unfolding(crate::specs::Reading::envelope_in))]
 pub fn from_frame(alloc: Global, frame: &Frame) -> Result<Envelope, WireErr>
     ensures { Gives (λ e. e) result (envelope_in frame.now) }
@@ -157,8 +160,8 @@ fn made(alloc: Global, kind: u8, out: Output) -> Result<Frame, WireErr>
     }
 }
 
-/// The frame of an envelope. It is refused exactly where its message would have more than 400,000,000 bytes, or for want of
-/// memory.
+/// The frame of an envelope. It is refused exactly where its message would have more than
+/// 400,000,000 bytes, or for want of memory.
 pub fn to_frame(alloc: Global, envelope: &Envelope) -> Result<Frame, WireErr>
     ensures { Makes (envelope_frame envelope.now) result }
 {
@@ -167,8 +170,8 @@ pub fn to_frame(alloc: Global, envelope: &Envelope) -> Result<Frame, WireErr>
     made(alloc, msg_kind(&envelope.msg), out)
 }
 
-/// The frame of a batch. It is refused exactly where its message would have more than 400,000,000 bytes, or for want of
-/// memory.
+/// The frame of a batch. It is refused exactly where its message would have more than 400,000,000
+/// bytes, or for want of memory.
 pub fn batch_to_frame(alloc: Global, envelopes: &[Envelope]) -> Result<Frame, WireErr>
     ensures { Makes (batch_frame envelopes.now) result }
 {

@@ -297,7 +297,8 @@ fn read_each_batched(
     end: u64,
     bytes: &[u8],
 ) -> Result<(Vec<Envelope>, &[u8]), WireErr>
-    ensures { Gives (λ x. (x.0.items, x.1.now)) result (each_at (batched_at end) count [] bytes.now) }
+    ensures { Gives (λ x. (x.0.items, x.1.now)) result
+        (each_at (batched_at end) count [] bytes.now) }
 {
     let mut envelopes = Vec::new(alloc);
     let mut rest = bytes;

@@ -1,5 +1,5 @@
-//! Numbers, bytes and counts at the front of what is left of a message's bytes. Each reader gives what it found and the
-//! bytes behind it. `end` is the place behind all of the bytes.
+//! Numbers, bytes and counts at the front of what is left of a message's bytes. Each reader gives
+//! what it found and the bytes behind it. `end` is the place behind all of the bytes.
 ghost use Rattle.std.specs.Prelude.{◌≡◌, ◌==◌, not, position, ◌<◌, ◌≤◌, length, IfOk, IfSome};
 ghost use Rattle.std.specs.Int.{w16, w32, w64};
 ghost use Rattle.node_wire.specs.Errors.{Gives};

@@ -60,7 +60,8 @@ fn read_each_update_op(
     end: u64,
     bytes: &[u8],
 ) -> Result<(Vec<UpdateOp>, &[u8]), WireErr>
-    ensures { Gives (λ x. (x.0.items, x.1.now)) result (each_at (update_op_at end) count [] bytes.now) }
+    ensures { Gives (λ x. (x.0.items, x.1.now)) result
+        (each_at (update_op_at end) count [] bytes.now) }
 {
     let mut ops = Vec::new(alloc);
     let mut rest = bytes;
@@ -184,7 +185,8 @@ fn read_each_update(
     end: u64,
     bytes: &[u8],
 ) -> Result<(Vec<UpdateItem>, &[u8]), WireErr>
-    ensures { Gives (λ x. (x.0.items, x.1.now)) result (each_at (update_item_at end) count [] bytes.now) }
+    ensures { Gives (λ x. (x.0.items, x.1.now)) result
+        (each_at (update_item_at end) count [] bytes.now) }
 {
     let mut items = Vec::new(alloc);
     let mut rest = bytes;
@@ -227,7 +229,8 @@ fn read_each_delete(
     end: u64,
     bytes: &[u8],
 ) -> Result<(Vec<DeleteItem>, &[u8]), WireErr>
-    ensures { Gives (λ x. (x.0.items, x.1.now)) result (each_at (delete_item_at end) count [] bytes.now) }
+    ensures { Gives (λ x. (x.0.items, x.1.now)) result
+        (each_at (delete_item_at end) count [] bytes.now) }
 {
     let mut items = Vec::new(alloc);
     let mut rest = bytes;

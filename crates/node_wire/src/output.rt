@@ -7,8 +7,8 @@ use std::marker::Model;
 /// No message has more bytes in `b`.
 const MOST: usize = 399_999_944;
 
-/// The bytes of `b` that were written. Contracts see the bytes; or none, once they were more than a message may have. Then
-/// no more are kept.
+/// The bytes of `b` that were written. Contracts see the bytes; or none, once they were more than a
+/// message may have. Then no more are kept.
 #[derive(Drop)]
 pub struct Output {
     bytes: Vec<u8>,

@@ -58,7 +58,8 @@ fn put_rows(
     docs: &[Doc],
     cut: &Option<Id>,
 ) -> Result<(), AllocError>
-    ensures { OnOk result (out.new ≡ joined out.old (2 ∷ counted spelling docs.now ++ cut_bytes cut.now)) }
+    ensures { OnOk result
+        (out.new ≡ joined out.old (2 ∷ counted spelling docs.now ++ cut_bytes cut.now)) }
 {
     out.put(&[2])?;
     put_documents(alloc, out, docs)?;

@@ -22,7 +22,8 @@ pub fn put_u32(out: &mut Output, number: u32) -> Result<(), AllocError>
     out.put(&number.to_le_bytes())
 }
 
-/// A number of things. There can't be as many as don't fit: they would have more bytes than a message.
+/// A number of things. There can't be as many as don't fit: they would have more bytes than a
+/// message.
 #[tactic(auto, unfolding(crate::specs::Spelling::word))]
 pub fn put_count(out: &mut Output, count: usize) -> Result<(), AllocError>
     ensures { OnOk result (out.new ≡ joined out.old (word count)) }

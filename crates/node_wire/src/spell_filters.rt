@@ -50,7 +50,8 @@ fn put_test(
     cmp: Cmp,
     value: &Value,
 ) -> Result<(), AllocError>
-    ensures { OnOk result (out.new ≡ joined out.old (4 ∷ text_bytes name.now ++ cmp_code cmp ∷ value_bytes value.now)) }
+    ensures { OnOk result (out.new
+        ≡ joined out.old (4 ∷ text_bytes name.now ++ cmp_code cmp ∷ value_bytes value.now)) }
 {
     out.put(&[4])?;
     put_text(out, name.as_str().as_bytes())?;
@@ -67,7 +68,8 @@ fn put_among(
     name: &Name,
     values: &[Value],
 ) -> Result<(), AllocError>
-    ensures { OnOk result (out.new ≡ joined out.old (kind ∷ text_bytes name.now ++ counted value_bytes values.now)) }
+    ensures { OnOk result
+        (out.new ≡ joined out.old (kind ∷ text_bytes name.now ++ counted value_bytes values.now)) }
 {
     out.put(&[kind])?;
     put_text(out, name.as_str().as_bytes())?;

@@ -40,7 +40,8 @@ pub fn msg_kind(msg: &Msg) -> u8
 /// What stands in front of a statement's operation.
 #[tactic(auto, using(crate::proofs::Joined::joined_twice))]
 fn put_statement_front(out: &mut Output, m: &Statement) -> Result<(), AllocError>
-    ensures { OnOk result (out.new ≡ joined out.old (named_bytes m.now.tag m.now.lsid m.now.number ++ word m.now.k ++ long m.now.read_at ++ word m.now.boot)) }
+    ensures { OnOk result (out.new ≡ joined out.old (named_bytes m.now.tag m.now.lsid m.now.number
+        ++ word m.now.k ++ long m.now.read_at ++ word m.now.boot)) }
 {
     put_named(out, m.tag, &m.lsid, m.number)?;
     put_u32(out, m.k)?;
@@ -59,7 +60,8 @@ fn put_statement(alloc: Global, out: &mut Output, m: &Statement) -> Result<(), A
 /// What stands in front of an answer's outcome.
 #[tactic(auto, using(crate::proofs::Joined::joined_twice))]
 fn put_answer_front(out: &mut Output, m: &Answer) -> Result<(), AllocError>
-    ensures { OnOk result (out.new ≡ joined out.old (tag_bytes m.now.tag ++ word m.now.k ++ half m.now.shard ++ word m.now.boot ++ long m.now.read_at)) }
+    ensures { OnOk result (out.new ≡ joined out.old (tag_bytes m.now.tag ++ word m.now.k
+        ++ half m.now.shard ++ word m.now.boot ++ long m.now.read_at)) }
 {
     put_tag(out, m.tag)?;
     put_u32(out, m.k)?;
@@ -85,7 +87,8 @@ fn put_named_boot(
     number: i64,
     boot: u32,
 ) -> Result<(), AllocError>
-    ensures { OnOk result (out.new ≡ joined out.old (named_bytes tag lsid.now number ++ word boot)) }
+    ensures { OnOk result
+        (out.new ≡ joined out.old (named_bytes tag lsid.now number ++ word boot)) }
 {
     put_named(out, tag, lsid, number)?;
     put_u32(out, boot)
@@ -193,7 +196,8 @@ fn put_msg(alloc: Global, out: &mut Output, msg: &Msg) -> Result<(), AllocError>
 /// What stands in front of an envelope's message.
 #[tactic(auto, using(crate::proofs::Joined::joined_twice))]
 fn put_front(out: &mut Output, from: NodeId, to: NodeId, time: Ts) -> Result<(), AllocError>
-    ensures { OnOk result (out.new ≡ joined out.old (node_bytes from ++ node_bytes to ++ long time)) }
+    ensures { OnOk result
+        (out.new ≡ joined out.old (node_bytes from ++ node_bytes to ++ long time)) }
 {
     put_node(out, from)?;
     put_node(out, to)?;

@@ -158,7 +158,8 @@ fn put_front(out: &mut Output, kind: u8, ns: &Ns) -> Result<(), AllocError>
 /// A find's kind, its namespace and its filter.
 #[tactic(auto, using(crate::proofs::Joined::joined_twice))]
 fn put_wanted(alloc: Global, out: &mut Output, ns: &Ns, filter: &Filter) -> Result<(), AllocError>
-    ensures { OnOk result (out.new ≡ joined out.old (2 ∷ text_bytes ns.now ++ filter_bytes filter.now)) }
+    ensures { OnOk result
+        (out.new ≡ joined out.old (2 ∷ text_bytes ns.now ++ filter_bytes filter.now)) }
 {
     put_front(out, 2, ns)?;
     put_filter(alloc, out, filter)

@@ -1,5 +1,6 @@
 -- The steps of a reader that gave something.
-use Rattle.std.proofs.Common.{◌≡◌, Bool, true, false, cond, Option, Some, None, Result, Ok, Err, refl, ap}
+use Rattle.std.proofs.Common.{◌≡◌, Bool, true, false, cond, Option, Some, None, Result, Ok, Err}
+use Rattle.std.proofs.Common.{refl, ap}
 use Rattle.outcomes.specs.Bind.{◌>>=◌}
 use Rattle.outcomes.proofs.Binding.{bind_ok, passed, ok_is, bound}
 use Rattle.bson_core.specs.declared.error.BsonErr.{BsonErr}

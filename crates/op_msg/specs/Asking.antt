@@ -1,6 +1,8 @@
--- What is seen of a message from its bytes alone, readable or not: its own number, its form, and whether its sender wants
--- a reply. And the numbers of faults, which are this project's choice, as is which of them close a connection.
-use Rattle.std.specs.Prelude.{ℕ, ℤ, pos, ◌==◌, ◌||◌, Bool, true, false, not, List, drop, Option, Some, None}
+-- What is seen of a message from its bytes alone, readable or not: its own number, its form, and
+-- whether its sender wants a reply. And the numbers of faults, which are this project's choice, as
+-- is which of them close a connection.
+use Rattle.std.specs.Prelude.{ℕ, ℤ, pos, ◌==◌, ◌||◌, Bool, true, false, not, List, drop, Option}
+use Rattle.std.specs.Prelude.{Some, None}
 use Rattle.std.specs.Int.{w32, cast_signed}
 use Rattle.bson_core.specs.Reading.{number_at}
 use Rattle.op_msg.specs.Message.{has_flag}

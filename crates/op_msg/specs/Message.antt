@@ -1,13 +1,18 @@
--- Messages, after the pages of the MongoDB wire protocol on OP_MSG, OP_QUERY and OP_REPLY. Each begins with a header of
--- four int32: the length of the whole message, requestID, responseTo and opCode.
+-- Messages, after the pages of the MongoDB wire protocol on OP_MSG, OP_QUERY and OP_REPLY. Each
+-- begins with a header of four int32: the length of the whole message, requestID, responseTo and
+-- opCode.
 --
--- OP_MSG, 2013, has flagBits, sections, and where the lowest flag is set a checksum of four bytes. A section of kind 0 is
--- one document, the body. One of kind 1 is a sequence: a size that counts itself, a name ended by 00, and documents.
+-- OP_MSG, 2013, has flagBits, sections, and where the lowest flag is set a checksum of four bytes.
+-- A section of kind 0 is one document, the body. One of kind 1 is a sequence: a size that counts
+-- itself, a name ended by 00, and documents.
 --
--- Older clients begin by an OP_QUERY, 2004, which has flags, a collection's name ended by 00, numberToSkip,
--- numberToReturn, a document, and maybe a second one that says which fields are wanted. It is answered by an OP_REPLY, 1:
--- responseFlags, an int64 cursorID, startingFrom, numberReturned, and as many documents.
-use Rattle.std.specs.Prelude.{◌≡◌, ℕ, ℤ, ◌+◌, ◌^◌, ◌<◌, ◌≤◌, ◌/◌, ◌%◌, ◌⊎◌, ◌==◌, Bool, true, false, List, [], ◌∷◌, ◌++◌, length, Option, Some, None, IsTrue, FitsSigned, codes, if◌then◌else◌}
+-- Older clients begin by an OP_QUERY, 2004, which has flags, a collection's name ended by 00,
+-- numberToSkip, numberToReturn, a document, and maybe a second one that says which fields are
+-- wanted. It is answered by an OP_REPLY, 1: responseFlags, an int64 cursorID, startingFrom,
+-- numberReturned, and as many documents.
+use Rattle.std.specs.Prelude.{◌≡◌, ℕ, ℤ, ◌+◌, ◌^◌, ◌<◌, ◌≤◌, ◌/◌, ◌%◌, ◌⊎◌, ◌==◌, Bool, true, false}
+use Rattle.std.specs.Prelude.{List, [], ◌∷◌, ◌++◌, length, Option, Some, None, IsTrue, FitsSigned}
+use Rattle.std.specs.Prelude.{codes, if◌then◌else◌}
 use Rattle.std.proofs.Common.{inl, inr}
 use Rattle.std.specs.List.{flat_map}
 use Rattle.std.specs.Int.{w32, cast_unsigned}
@@ -26,7 +31,8 @@ use Rattle.op_msg.specs.declared.frame.Frame.{Frame}
 
 -- the header, with opCode 2013, and flagBits
 unfoldable pub front : ℕ → ℤ → ℤ → ℕ → List ℕ
-front len request_id response_to flags = word len ++ word (cast_unsigned w32 request_id) ++ word (cast_unsigned w32 response_to) ++ word 2013 ++ word flags
+front len request_id response_to flags = word len ++ word (cast_unsigned w32 request_id)
+    ++ word (cast_unsigned w32 response_to) ++ word 2013 ++ word flags
 
 -- a name and documents
 abbrev pub Sequence : Type 0
@@ -34,7 +40,8 @@ Sequence = List ℕ × List Document
 
 -- a section of kind 1, of a name and of the bytes of its documents
 unfoldable pub sequence_section : List ℕ → List ℕ → List ℕ
-sequence_section name documents = 1 ∷ word (4 + length name + 1 + length documents) ++ name ++ 0 ∷ documents
+sequence_section name documents =
+    1 ∷ word (4 + length name + 1 + length documents) ++ name ++ 0 ∷ documents
 
 -- What is written: the body first, then the sequences, and no checksum.
 
@@ -50,12 +57,15 @@ flags_of more = if more then 2 else 0
 
 -- the header of an OP_REPLY, with opCode 1, no flags, the cursor 0, from 0 on one document
 unfoldable pub reply_front : ℕ → ℤ → ℤ → List ℕ
-reply_front len request_id response_to = word len ++ word (cast_unsigned w32 request_id) ++ word (cast_unsigned w32 response_to) ++ word 1 ++ word 0 ++ (word 0 ++ word 0) ++ word 0 ++ word 1
+reply_front len request_id response_to = word len ++ word (cast_unsigned w32 request_id) ++ word
+    (cast_unsigned w32 response_to) ++ word 1 ++ word 0 ++ (word 0 ++ word 0) ++ word 0 ++ word 1
 
 -- the one spelling of a message; one in the older form is an OP_REPLY of its body alone
 abbrev pub message_by : Bool → Frame → List ℕ
-message_by false f = front (20 + length (sections f)) f.request_id f.response_to (flags_of f.more) ++ sections f
-message_by true f = reply_front (36 + length (spelling f.body)) f.request_id f.response_to ++ spelling f.body
+message_by false f =
+    front (20 + length (sections f)) f.request_id f.response_to (flags_of f.more) ++ sections f
+message_by true f =
+    reply_front (36 + length (spelling f.body)) f.request_id f.response_to ++ spelling f.body
 
 abbrev pub message : Frame → List ℕ
 message f = message_by f.legacy f
@@ -69,19 +79,23 @@ has_flag bit flags = flags / 2 ^ bit % 2 == 1
 -- documents one after the other
 abbrev pub ReadsDocuments : List Document → List ℕ → Type 0
 ReadsDocuments [] bytes = bytes ≡ []
-ReadsDocuments (doc ∷ docs) bytes = (first : List ℕ) × (rest : List ℕ) × Reads 100 doc first × (bytes ≡ first ++ rest) × ReadsDocuments docs rest
+ReadsDocuments (doc ∷ docs) bytes = (first : List ℕ) × (rest : List ℕ) × Reads 100 doc first
+    × (bytes ≡ first ++ rest) × ReadsDocuments docs rest
 
--- the sections behind one another: those of kind 0 have the documents `bodies`, those of kind 1 are the sequences
+-- the sections behind one another: those of kind 0 have the documents `bodies`, those of kind 1 are
+-- the sequences
 abbrev pub Section : Type 0
 Section = Document ⊎ Sequence
 
 abbrev pub ReadsSection : Section → List ℕ → Type 0
 ReadsSection (inl doc) bytes = (b : List ℕ) × Reads 100 doc b × (bytes ≡ 0 ∷ b)
-ReadsSection (inr seq) bytes = (documents : List ℕ) × IsName seq.0 × ReadsDocuments seq.1 documents × (bytes ≡ sequence_section seq.0 documents)
+ReadsSection (inr seq) bytes = (documents : List ℕ) × IsName seq.0 × ReadsDocuments seq.1 documents
+    × (bytes ≡ sequence_section seq.0 documents)
 
 abbrev pub ReadsSections : List Section → List ℕ → Type 0
 ReadsSections [] bytes = bytes ≡ []
-ReadsSections (section ∷ more) bytes = (first : List ℕ) × (rest : List ℕ) × ReadsSection section first × (bytes ≡ first ++ rest) × ReadsSections more rest
+ReadsSections (section ∷ more) bytes = (first : List ℕ) × (rest : List ℕ)
+    × ReadsSection section first × (bytes ≡ first ++ rest) × ReadsSections more rest
 
 abbrev pub bodies : List Section → List Document
 bodies [] = []
@@ -100,15 +114,16 @@ is_text t other = false
 
 -- a message between nodes: the body's first `$db` is the text "mtx"
 abbrev pub is_internal : Document → Bool
-is_internal body = elim (value_of (codes "$db") body) [ None ↦ false | Some db ↦ is_text (codes "mtx") (out-Value db) ]
+is_internal body = elim (value_of (codes "$db") body)
+    [ None ↦ false | Some db ↦ is_text (codes "mtx") (out-Value db) ]
 
 -- 48,000,000 bytes, and 400,000,000 between nodes
 pub record IsWithinLimits (len : ℕ) (body : Document) : Type 0 where
   pub most : len ≤ most_internal
   pub client : (len ≤ most_message) ⊎ IsTrue (is_internal body)
 
--- Flags 2 to 15 must be understood, and none of them is. Flag 0 says that a checksum follows, flag 1 is moreToCome; the
--- others may be passed over.
+-- Flags 2 to 15 must be understood, and none of them is. Flag 0 says that a checksum follows, flag
+-- 1 is moreToCome; the others may be passed over.
 pub record AreFlags (flags : ℕ) (more : Bool) (checksum : List ℕ) : Type 0 where
   pub fits : flags < 2 ^ 32
   pub known : (bit : ℕ) → 2 ≤ bit → bit < 16 → has_flag bit flags ≡ false
@@ -154,7 +169,8 @@ pub record IsQuery (q : Query) : Type 0 where
 
 -- the header of an OP_QUERY, with opCode 2004
 unfoldable pub query_header : ℕ → ℤ → ℤ → List ℕ
-query_header len request_id response_to = word len ++ word (cast_unsigned w32 request_id) ++ word (cast_unsigned w32 response_to) ++ word 2004
+query_header len request_id response_to = word len ++ word (cast_unsigned w32 request_id)
+    ++ word (cast_unsigned w32 response_to) ++ word 2004
 
 -- the bytes, all of them, are this OP_QUERY; its second document is read and dropped
 pub record IsOlder (bytes : List ℕ) (f : Frame) : Type 0 where
@@ -162,7 +178,8 @@ pub record IsOlder (bytes : List ℕ) (f : Frame) : Type 0 where
   pub selector : Option Document
   pub first : List ℕ
   pub second : List ℕ
-  pub spelled : bytes ≡ query_header (length bytes) f.request_id f.response_to ++ query_front query ++ first ++ second
+  pub spelled : bytes ≡ query_header (length bytes) f.request_id f.response_to ++ query_front query
+      ++ first ++ second
   pub request_id : FitsSigned w32 f.request_id
   pub response_to : FitsSigned w32 f.response_to
   pub is_query : IsQuery query

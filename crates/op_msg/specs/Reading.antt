@@ -1,5 +1,7 @@
 -- Reading a message front to back, as functions on lists: the message, or its first fault.
-use Rattle.std.specs.Prelude.{ℕ, zero, suc, ◌+◌, ◌-◌, Bool, true, false, not, List, [], ◌∷◌, ◌++◌, length, take, drop, Option, Some, None, Result, Ok, Err, nat_lt, ◌==◌, ◌&&◌, ◌||◌, if◌then◌else◌}
+use Rattle.std.specs.Prelude.{ℕ, zero, suc, ◌+◌, ◌-◌, Bool, true, false, not, List, [], ◌∷◌, ◌++◌}
+use Rattle.std.specs.Prelude.{length, take, drop, Option, Some, None, Result, Ok, Err, nat_lt, ◌==◌}
+use Rattle.std.specs.Prelude.{◌&&◌, ◌||◌, if◌then◌else◌}
 use Rattle.std.specs.Int.{w32, cast_signed}
 use Rattle.op_msg.specs.Limits.{most_internal, most_message}
 use Rattle.outcomes.specs.Bind.{◌>>=◌}
@@ -12,7 +14,8 @@ use Rattle.op_msg.specs.Errors.{from_document}
 use Rattle.op_msg.specs.declared.header.Header.{Header}
 use Rattle.op_msg.specs.declared.frame.Frame.{Frame}
 use Rattle.op_msg.specs.declared.frame.FrameErr.{FrameErr}
-use Rattle.op_msg.specs.declared.frame.FrameErr.TheVariants.{Length, OpCode, Flags, Section, NoBody, TwoBodies, TooLarge}
+use Rattle.op_msg.specs.declared.frame.FrameErr.TheVariants.{Length, OpCode, Flags, Section, NoBody}
+use Rattle.op_msg.specs.declared.frame.FrameErr.TheVariants.{TwoBodies, TooLarge}
 
 -- what was found, or that fault
 abbrev pub or_fault : {A : Type 0} → FrameErr → Option A → Result A FrameErr
@@ -23,7 +26,8 @@ or_fault e (Some x) = Ok x
 abbrev pub number : List ℕ → Result (ℕ × List ℕ) FrameErr
 number bytes = or_fault Section (number_at w32 bytes)
 
--- how many bytes a document is read from: as many as its count says, or all that are left where the count doesn't fit
+-- how many bytes a document is read from: as many as its count says, or all that are left where the
+-- count doesn't fit
 abbrev pub extent_by : ℕ → Option (ℕ × List ℕ) → ℕ
 extent_by left None = left
 extent_by left (Some n) = if nat_lt n.0 5 || nat_lt left n.0 then left else n.0
@@ -37,15 +41,18 @@ as_message (Err e) = Err (from_document e)
 
 -- a document and the bytes behind it
 unfoldable pub document_at : List ℕ → Result (Document × List ℕ) FrameErr
-document_at bytes = as_message (document_of most_internal (take (extent bytes) bytes)) >>= λ doc. Ok (doc, drop (extent bytes) bytes)
+document_at bytes = as_message (document_of most_internal (take (extent bytes) bytes))
+    >>= λ doc. Ok (doc, drop (extent bytes) bytes)
 
 -- documents behind those in front, to the end of the bytes: fewer than so many
 unfoldable pub documents_at : ℕ → List Document → List ℕ → Result (List Document) FrameErr
 documents_at zero front bytes = Err Section
 documents_at (suc n) front [] = Ok front
-documents_at (suc n) front (b ∷ bytes) = document_at (b ∷ bytes) >>= λ x. documents_at n (front ++ x.0 ∷ []) x.1
+documents_at (suc n) front (b ∷ bytes) =
+    document_at (b ∷ bytes) >>= λ x. documents_at n (front ++ x.0 ∷ []) x.1
 
--- the name before the first 00, and the bytes behind it; a name that isn't one is a fault of its section
+-- the name before the first 00, and the bytes behind it; a name that isn't one is a fault of its
+-- section
 abbrev pub as_section : {A : Type 0} → Result A BsonErr → Result A FrameErr
 as_section (Ok x) = Ok x
 as_section (Err e) = Err Section
@@ -74,7 +81,8 @@ with_body (Some body) seqs bytes = Err TwoBodies
 unfoldable pub section_at : Found → ℕ → List ℕ → Result (Found × List ℕ) FrameErr
 section_at found kind bytes =
     if kind == 0 then with_body found.0 found.1 bytes else
-    (if kind == 1 then (sequence_at bytes >>= λ x. Ok ((found.0, found.1 ++ x.0 ∷ []), x.1)) else Err Section)
+    (if kind == 1 then (sequence_at bytes >>= λ x. Ok ((found.0, found.1 ++ x.0 ∷ []), x.1))
+    else Err Section)
 
 -- the body, which has to be there, and the sequences
 abbrev pub finish : Found → Result (Document × List Sequence) FrameErr
@@ -84,7 +92,8 @@ finish found = or_fault NoBody found.0 >>= λ body. Ok (body, found.1)
 unfoldable pub sections_at : ℕ → Found → List ℕ → Result (Document × List Sequence) FrameErr
 sections_at zero found bytes = Err Section
 sections_at (suc n) found [] = finish found
-sections_at (suc n) found (kind ∷ bytes) = section_at found kind bytes >>= λ x. sections_at n x.0 x.1
+sections_at (suc n) found (kind ∷ bytes) =
+    section_at found kind bytes >>= λ x. sections_at n x.0 x.1
 
 -- the least flag among so many, from that bit on, which is set
 abbrev pub least_flag : ℕ → ℕ → ℕ → Option ℕ
@@ -99,7 +108,8 @@ known_by (Some bit) flags = Err (Flags bit)
 -- the bytes of the sections, without a checksum
 abbrev pub without_sum : Bool → List ℕ → Result (List ℕ) FrameErr
 without_sum false bytes = Ok bytes
-without_sum true bytes = if nat_lt (length bytes) 4 then Err Section else Ok (take (length bytes - 4) bytes)
+without_sum true bytes = if nat_lt (length bytes) 4 then Err Section
+    else Ok (take (length bytes - 4) bytes)
 
 -- the flags and the sections behind a header
 unfoldable pub contents_at : List ℕ → Result (Bool × Document × List Sequence) FrameErr
@@ -110,7 +120,8 @@ contents_at bytes = do
   found ← sections_at (length inside + 1) (None, []) inside
   Ok (has_flag 1 known, found.0, found.1)
 
--- what stands behind the first document of an OP_QUERY: nothing, or a second one, and nothing behind it
+-- what stands behind the first document of an OP_QUERY: nothing, or a second one, and nothing
+-- behind it
 abbrev pub at_end : List ℕ → Result (Unit {0}) FrameErr
 at_end [] = Ok tt
 at_end (b ∷ bytes) = Err Section
@@ -137,7 +148,8 @@ contents_in true bytes = query_at bytes >>= λ body. Ok (false, body, [])
 
 -- whether an operation that is read is the older one
 abbrev pub is_older : ℕ → Result Bool FrameErr
-is_older op_code = if op_code == 2013 then Ok false else (if op_code == 2004 then Ok true else Err OpCode)
+is_older op_code = if op_code == 2013 then Ok false
+    else (if op_code == 2004 then Ok true else Err OpCode)
 
 -- a number of the header
 abbrev pub header_number : List ℕ → Result (ℕ × List ℕ) FrameErr
@@ -149,7 +161,10 @@ header_at bytes = do
   request ← header_number len.1
   response ← header_number request.1
   op ← header_number response.1
-  Ok (record { len = len.0; request_id = request.0; response_to = response.0; op_code = op.0 }, op.1)
+  Ok (
+    record { len = len.0; request_id = request.0; response_to = response.0; op_code = op.0 },
+    op.1,
+  )
 
 -- what a message of that length holds, within the limits for it
 abbrev pub contents_within : Bool → ℕ → List ℕ → Result (Bool × Document × List Sequence) FrameErr
@@ -177,4 +192,5 @@ frame_of bytes = do
   header ← header_at bytes
   if not (is_length header.0.len (length bytes)) then Err Length else
       (if nat_lt most_internal (length bytes) then Err TooLarge else
-      (is_older header.0.op_code >>= λ legacy. contents_within legacy (length bytes) header.1 >>= λ contents. Ok (frame_by header.0 legacy contents)))
+      (is_older header.0.op_code >>= λ legacy. contents_within legacy (length bytes) header.1
+      >>= λ contents. Ok (frame_by header.0 legacy contents)))

@@ -1,7 +1,10 @@
--- Messages in a stream of bytes, which comes in pieces. By the OP_MSG page of the MongoDB wire protocol a message begins
--- with its own length, an int32 whose lowest byte comes first. A length counts the 16 bytes of the header too, so that none
--- is below 16; and from 2 ^ 31 on four bytes are a negative int32.
-use Rattle.std.specs.Prelude.{◌^◌, ◌≤◌, ℕ, List, [], ◌∷◌, ◌++◌, length, take, drop, Option, Some, None, Result, Ok, Err, nat_lt, nat_le, IsSome, IsOkAnd, ◌||◌, if◌then◌else◌}
+-- Messages in a stream of bytes, which comes in pieces. By the OP_MSG page of the MongoDB wire
+-- protocol a message begins with its own length, an int32 whose lowest byte comes first. A length
+-- counts the 16 bytes of the header too, so that none is below 16; and from 2 ^ 31 on four bytes
+-- are a negative int32.
+use Rattle.std.specs.Prelude.{◌^◌, ◌≤◌, ℕ, List, [], ◌∷◌, ◌++◌, length, take, drop, Option, Some}
+use Rattle.std.specs.Prelude.{None, Result, Ok, Err, nat_lt, nat_le, IsSome, IsOkAnd, ◌||◌}
+use Rattle.std.specs.Prelude.{if◌then◌else◌}
 use Rattle.std.specs.Int.{w32}
 use Rattle.bson_core.specs.Reading.{number_at}
 use Rattle.op_msg.specs.declared.frame.Frame.{Frame}
@@ -9,12 +12,14 @@ use Rattle.op_msg.specs.declared.frame.FrameErr.{FrameErr}
 use Rattle.op_msg.specs.declared.frame.FrameErr.TheVariants.{Length, TooLarge}
 use Rattle.op_msg.specs.Message.{IsMessage}
 
--- a feeder: the bytes that came and weren't given yet, and the length of the longest message that is given
+-- a feeder: the bytes that came and weren't given yet, and the length of the longest message that
+-- is given
 pub record Stream : Type 0 where
   pub held : List ℕ
   pub limit : ℕ
 
--- the length of the message that the bytes begin with, where they hold all of it; a length that isn't one is refused
+-- the length of the message that the bytes begin with, where they hold all of it; a length that
+-- isn't one is refused
 abbrev pub length_by : ℕ → List ℕ → Option (ℕ × List ℕ) → Result (Option ℕ) FrameErr
 length_by limit held None = Ok None
 length_by limit held (Some number) =
@@ -41,8 +46,8 @@ next_of limit held = next_by held (length_of limit held)
 abbrev pub GivesMessage : Next → Type 0
 GivesMessage next = IsOkAnd next (λ message. IsSome message)
 
--- Runs of calls: a piece is fed, or the next message is taken. A call that runs out of memory changes nothing, so it is no
--- step.
+-- Runs of calls: a piece is fed, or the next message is taken. A call that runs out of memory
+-- changes nothing, so it is no step.
 pub data Step : Type 0 where
   Feed : List ℕ → Step
   Take : Step

@@ -1,5 +1,6 @@
--- What is written of a message is that message, where its documents have at most 100 levels. MongoDB's page of limits
--- has this number for the nesting of a document, and a reader takes no more.
+-- What is written of a message is that message, where its documents have at most 100 levels.
+-- MongoDB's page of limits has this number for the nesting of a document, and a reader takes no
+-- more.
 use Rattle.std.specs.Prelude.{◌≤◌, length}
 use Rattle.std.specs.List.{All}
 use Rattle.bson_core.specs.Names.{IsName}

@@ -51,7 +51,8 @@ pub fn is_legacy(message: &[u8]) -> bool
     }
 }
 
-/// Whether its sender wants a reply: the flag moreToCome, bit 1, is clear. The older form has no such flag.
+/// Whether its sender wants a reply: the flag moreToCome, bit 1, is clear. The older form has no
+/// such flag.
 #[tactic(auto, unfolding(crate::specs::Asking::wants_reply))]
 pub fn wants_reply(message: &[u8]) -> bool
     ensures { result ≡ wants_reply message.now }

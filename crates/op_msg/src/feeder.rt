@@ -42,8 +42,9 @@ fn whole_length(limit: u32, held: &[u8]) -> Result<Option<usize>, FrameErr>
 
 /// Cuts bytes that come in pieces into messages, by the length in front of each.
 ///
-/// It holds the bytes in one block. A call of `next` that gives nothing looks at four of them. What is held is moved only
-/// once more bytes than these were given, so the work is linear in the bytes that come.
+/// It holds the bytes in one block. A call of `next` that gives nothing looks at four of them. What
+/// is held is moved only once more bytes than these were given, so the work is linear in the bytes
+/// that come.
 #[derive(Debug, Drop)]
 pub struct Feeder {
     alloc: Global,
@@ -91,7 +92,8 @@ impl Feeder {
 
     /// Holds the piece too, behind what is held.
     pub fn feed(&mut self, piece: &[u8]) -> Result<(), FrameErr>
-        ensures fed { OnOk result (self.new ≡ record self.old { held = self.old.held ++ piece.now }) }
+        ensures fed { OnOk result
+            (self.new ≡ record self.old { held = self.old.held ++ piece.now }) }
         ensures refused { OnErr result (self.new ≡ self.old) }
         ensures causes { IfErr result (λ e. e ≡ FrameErr.Memory) }
     {
@@ -100,14 +102,17 @@ impl Feeder {
         Ok(())
     }
 
-    /// Gives the next message's bytes, once all of them are held. Of these it looks at the length alone: it is `Length` where
-    /// this is below the 16 bytes of a header, as a negative one is, and `TooLarge` where it is above the limit. Both come
-    /// again at every call. After `Memory` the call may be made again.
+    /// Gives the next message's bytes, once all of them are held. Of these it looks at the length
+    /// alone: it is `Length` where this is below the 16 bytes of a header, as a negative one is,
+    /// and `TooLarge` where it is above the limit. Both come again at every call. After `Memory`
+    /// the call may be made again.
     pub fn next(&mut self) -> Result<Option<Bytes>, FrameErr>
         // The message, and what is held behind it; none; or a refusal.
-        ensures next { Gives (λ message. option_map (λ bytes. (bytes, self.new.held)) message) result (next_of self.old.limit self.old.held) }
+        ensures next { Gives (λ message. option_map (λ bytes. (bytes, self.new.held)) message)
+            result (next_of self.old.limit self.old.held) }
         // Memory is wanted for a message alone.
-        ensures memory { IsErrOf result FrameErr.Memory → GivesMessage (next_of self.old.limit self.old.held) }
+        ensures memory { IsErrOf result FrameErr.Memory
+            → GivesMessage (next_of self.old.limit self.old.held) }
         ensures limit { self.new.limit ≡ self.old.limit }
         ensures none { IfOk result (λ message. IfNone message (self.new ≡ self.old)) }
         ensures refused { OnErr result (self.new ≡ self.old) }
@@ -122,35 +127,48 @@ impl Feeder {
     }
 }
 
-// Laws of the definitions: a law is the contract of a function that changes nothing and gives nothing.
+// Laws of the definitions: a law is the contract of a function that changes nothing and gives
+// nothing.
 
-/// The messages that a feeder gave and the bytes that it still holds, joined, are the bytes that it was fed.
+/// The messages that a feeder gave and the bytes that it still holds, joined, are the bytes that it
+/// was fed.
 pub fn no_byte_is_lost()
-    ensures { (limit : ℕ) (held : List ℕ) (steps : List Step) → concat (run limit held steps).0 ++ (run limit held steps).1 ≡ held ++ fed steps }
+    ensures { (limit : ℕ) (held : List ℕ) (steps : List Step)
+        → concat (run limit held steps).0 ++ (run limit held steps).1 ≡ held ++ fed steps }
 {}
 
 /// How the bytes are cut into pieces doesn't matter, nor when messages are taken.
 pub fn cuts_dont_matter()
     // Two pieces are as their join is.
-    ensures joined { (limit : ℕ) (held first second : List ℕ) (steps : List Step) → run limit held (Feed first ∷ Feed second ∷ steps) ≡ run limit held (Feed (first ++ second) ∷ steps) }
-    // Runs that were fed the same bytes, and after which no message is left to take, gave the same messages and hold the
-    // same bytes.
+    ensures joined { (limit : ℕ) (held first second : List ℕ) (steps : List Step) → run limit held
+        (Feed first ∷ Feed second ∷ steps) ≡ run limit held (Feed (first ++ second) ∷ steps) }
+    // Runs that were fed the same bytes, and after which no message is left to take, gave the same
+    // messages and hold the same bytes.
     ensures same { (limit : ℕ) (first second : List Step) → fed first ≡ fed second
-        → ¬ GivesMessage (next_of limit (run limit [] first).1) → ¬ GivesMessage (next_of limit (run limit [] second).1)
+        → ¬ GivesMessage (next_of limit (run limit [] first).1)
+        → ¬ GivesMessage (next_of limit (run limit [] second).1)
         → run limit [] first ≡ run limit [] second }
     // A message stays the next one, and a refusal stays, whatever is fed.
-    ensures message { (limit : ℕ) (held bytes rest more : List ℕ) → next_of limit held ≡ Ok (Some (bytes, rest)) → next_of limit (held ++ more) ≡ Ok (Some (bytes, rest ++ more)) }
-    ensures refused { (limit : ℕ) (held more : List ℕ) (e : AnyError) → next_of limit held ≡ Err e → next_of limit (held ++ more) ≡ Err e }
+    ensures message { (limit : ℕ) (held bytes rest more : List ℕ) → next_of limit held
+        ≡ Ok (Some (bytes, rest)) → next_of limit (held ++ more) ≡ Ok (Some (bytes, rest ++ more)) }
+    ensures refused { (limit : ℕ) (held more : List ℕ) (e : AnyError) → next_of limit held ≡ Err e
+        → next_of limit (held ++ more) ≡ Err e }
 {}
 
 /// What comes out of a stream of messages are these messages.
 pub fn messages_come_out()
     // A message within the limit is given, whatever stands behind it; a longer one is refused.
-    ensures next { (limit : ℕ) (bytes more : List ℕ) → IsMessageWithin limit bytes → next_of limit (bytes ++ more) ≡ Ok (Some (bytes, more)) }
-    ensures longer { (limit : ℕ) (bytes more : List ℕ) (f : AnyFrame) → IsMessage bytes f → limit < length bytes → next_of limit (bytes ++ more) ≡ Err FrameErr.TooLarge }
+    ensures next { (limit : ℕ) (bytes more : List ℕ) → IsMessageWithin limit bytes
+        → next_of limit (bytes ++ more) ≡ Ok (Some (bytes, more)) }
+    ensures longer { (limit : ℕ) (bytes more : List ℕ) (f : AnyFrame) → IsMessage bytes f
+        → limit < length bytes → next_of limit (bytes ++ more) ≡ Err FrameErr.TooLarge }
     // Where nothing comes, no message is held whole.
-    ensures none { (limit : ℕ) (bytes more : List ℕ) (f : AnyFrame) → IsMessage bytes f → next_of limit (bytes ++ more) ≢ Ok None }
-    // Messages behind one another are given in their order, however they were cut, and nothing is left.
-    ensures all { (limit : ℕ) (messages : List (List ℕ)) (steps : List Step) → All (IsMessageWithin limit) messages → fed steps ≡ concat messages
-        → ¬ GivesMessage (next_of limit (run limit [] steps).1) → run limit [] steps ≡ (messages, []) }
+    ensures none { (limit : ℕ) (bytes more : List ℕ) (f : AnyFrame) → IsMessage bytes f
+        → next_of limit (bytes ++ more) ≢ Ok None }
+    // Messages behind one another are given in their order, however they were cut, and nothing is
+    // left.
+    ensures all { (limit : ℕ) (messages : List (List ℕ)) (steps : List Step)
+        → All (IsMessageWithin limit) messages → fed steps ≡ concat messages
+        → ¬ GivesMessage (next_of limit (run limit [] steps).1)
+        → run limit [] steps ≡ (messages, []) }
 {}

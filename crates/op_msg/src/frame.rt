@@ -27,15 +27,17 @@ pub struct Frame {
 /// Why bytes are no message, or why a message was not written.
 #[derive(Clone, Copy, Debug, PartialEq, Eq)]
 pub enum FrameErr {
-    /// There are fewer bytes than a header has, or the length in the header isn't that of the bytes.
+    /// There are fewer bytes than a header has, or the length in the header isn't that of the
+    /// bytes.
     Length,
     /// The operation is none that is read.
     OpCode,
-    /// That flag is set, the least of the flags 2 to 15 that is: they say what a reader must know, and none of them
-    /// is known.
+    /// That flag is set, the least of the flags 2 to 15 that is: they say what a reader must know,
+    /// and none of them is known.
     Flags { bit: u8 },
-    /// The flags, the checksum, a section's size or a number of an OP_QUERY don't fit into the message; or a section is of
-    /// another kind than 0 and 1, or a name has no end or is no UTF-8; or bytes stand behind an OP_QUERY's last document.
+    /// The flags, the checksum, a section's size or a number of an OP_QUERY don't fit into the
+    /// message; or a section is of another kind than 0 and 1, or a name has no end or is no UTF-8;
+    /// or bytes stand behind an OP_QUERY's last document.
     Section,
     /// There is no section of kind 0.
     NoBody,
@@ -43,7 +45,8 @@ pub enum FrameErr {
     TwoBodies,
     /// A section's document is none. A place counts from the first byte of that document.
     Bson(BsonErr),
-    /// The message has more than 400,000,000 bytes, or more than 48,000,000 and isn't one between nodes.
+    /// The message has more than 400,000,000 bytes, or more than 48,000,000 and isn't one between
+    /// nodes.
     TooLarge,
     /// There was no memory.
     Memory,

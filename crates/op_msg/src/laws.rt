@@ -1,5 +1,6 @@
-//! Laws of the definitions: a law is the contract of a function that changes nothing and gives nothing. Where facts that
-//! belong to the types of the parts are wanted, the function goes through the parts.
+//! Laws of the definitions: a law is the contract of a function that changes nothing and gives
+//! nothing. Where facts that belong to the types of the parts are wanted, the function goes through
+//! the parts.
 ghost use Rattle.std.specs.Prelude.{◌≡◌, ◌++◌, List, ℕ, [], false, Ok, length, FitsSigned};
 ghost use Rattle.std.specs.Int.{w32};
 ghost use Rattle.std.specs.List.{All};
@@ -38,19 +39,24 @@ fn numbers_fit(frame: &Frame)
     let _response_to = frame.response_to;
 }
 
-/// What is written of a message is that message, where its documents have at most 100 levels and it is within the limits.
+/// What is written of a message is that message, where its documents have at most 100 levels and it
+/// is within the limits.
 pub fn written_frame_is_a_message(frame: &Frame)
-    ensures { frame.now.legacy ≡ false → HasShallowDocuments frame.now → IsWithinLimits (length (message frame.now)) frame.now.body → IsMessage (message frame.now) frame.now }
+    ensures { frame.now.legacy ≡ false → HasShallowDocuments frame.now
+        → IsWithinLimits (length (message frame.now)) frame.now.body
+        → IsMessage (message frame.now) frame.now }
 {
     numbers_fit(frame);
     spelling_is_in_the_grammar(&frame.body);
     sequences_are_written(frame.seqs.as_slice());
 }
 
-/// What is written of a message is read as that message, where its documents have at most 100 levels and it is within the
-/// limits.
+/// What is written of a message is read as that message, where its documents have at most 100
+/// levels and it is within the limits.
 pub fn reading_undoes_writing(frame: &Frame)
-    ensures { frame.now.legacy ≡ false → HasShallowDocuments frame.now → IsWithinLimits (length (message frame.now)) frame.now.body → frame_of (message frame.now) ≡ Ok frame.now }
+    ensures { frame.now.legacy ≡ false → HasShallowDocuments frame.now
+        → IsWithinLimits (length (message frame.now)) frame.now.body
+        → frame_of (message frame.now) ≡ Ok frame.now }
 {
     written_frame_is_a_message(frame);
 }
@@ -63,8 +69,11 @@ pub fn message_has_no_fault(bytes: &[u8])
     let _len = bytes.len();
 }
 
-/// Bytes are those of one message at most; and no message is a proper front of another, since each begins with its length.
+/// Bytes are those of one message at most; and no message is a proper front of another, since each
+/// begins with its length.
 pub fn messages_are_told_apart()
-    ensures one { (f g : AnyFrame) (bytes : List ℕ) → IsMessage bytes f → IsMessage bytes g → f ≡ g }
-    ensures no_front { (f g : AnyFrame) (bytes rest : List ℕ) → IsMessage bytes f → IsMessage (bytes ++ rest) g → rest ≡ [] }
+    ensures one { (f g : AnyFrame) (bytes : List ℕ) → IsMessage bytes f
+        → IsMessage bytes g → f ≡ g }
+    ensures no_front { (f g : AnyFrame) (bytes rest : List ℕ) → IsMessage bytes f
+        → IsMessage (bytes ++ rest) g → rest ≡ [] }
 {}

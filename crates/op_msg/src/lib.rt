@@ -1,5 +1,5 @@
-//! Messages of the MongoDB wire protocol: OP_MSG, with sections and flags, and the older OP_QUERY and OP_REPLY, in which
-//! clients say their first word; and streams of them.
+//! Messages of the MongoDB wire protocol: OP_MSG, with sections and flags, and the older OP_QUERY
+//! and OP_REPLY, in which clients say their first word; and streams of them.
 #![tactic(auto)]
 
 mod asking;

@@ -133,7 +133,8 @@ fn read_section(
     kind: u8,
     bytes: &[u8],
 ) -> Result<(Sections, &[u8]), FrameErr>
-    ensures { Gives (λ x. ((x.0.body, x.0.seqs.items), x.1.now)) result (section_at (found.body, found.seqs.items) kind bytes.now) }
+    ensures { Gives (λ x. ((x.0.body, x.0.seqs.items), x.1.now)) result
+        (section_at (found.body, found.seqs.items) kind bytes.now) }
 {
     let Sections { body, mut seqs } = found;
     if kind == 0 {
@@ -165,7 +166,8 @@ fn finish(found: Sections) -> Result<(Doc, Vec<(Name, Items<Doc>)>), FrameErr>
 
 /// The sections that are all of the bytes.
 fn read_sections(alloc: Global, bytes: &[u8]) -> Result<(Doc, Vec<(Name, Items<Doc>)>), FrameErr>
-    ensures { Gives (λ x. (x.0, x.1.items)) result (sections_at (length bytes.now + 1) (None, []) bytes.now) }
+    ensures { Gives (λ x. (x.0, x.1.items)) result
+        (sections_at (length bytes.now + 1) (None, []) bytes.now) }
 {
     let mut found = Sections {
         body: None,
@@ -248,7 +250,8 @@ fn is_internal(body: &Doc) -> bool
     }
 }
 
-/// What stands behind the first document of an OP_QUERY: nothing, or a second one, which is dropped.
+/// What stands behind the first document of an OP_QUERY: nothing, or a second one, which is
+/// dropped.
 fn read_second(alloc: Global, bytes: &[u8]) -> Result<(), FrameErr>
     ensures { Gives (λ x. x) result (second_at bytes.now) }
 {
@@ -262,8 +265,8 @@ fn read_second(alloc: Global, bytes: &[u8]) -> Result<(), FrameErr>
     Ok(())
 }
 
-/// The first document of an OP_QUERY: behind flags, a collection's name, and how many documents are to be passed over and
-/// given, none of which counts.
+/// The first document of an OP_QUERY: behind flags, a collection's name, and how many documents are
+/// to be passed over and given, none of which counts.
 #[tactic(auto, unfolding(crate::specs::Reading::query_at))]
 fn read_query(alloc: Global, bytes: &[u8]) -> Result<Doc, FrameErr>
     ensures { Gives (λ d. d) result (query_at bytes.now) }
@@ -299,7 +302,8 @@ fn read_within_limits(
     len: usize,
     bytes: &[u8],
 ) -> Result<Contents, FrameErr>
-    ensures { Gives (λ c. (c.more, c.body, c.seqs.items)) result (contents_within legacy len bytes.now) }
+    ensures { Gives (λ c. (c.more, c.body, c.seqs.items)) result
+        (contents_within legacy len bytes.now) }
 {
     let contents = read_in_form(alloc, legacy, bytes)?;
     if len > CLIENT_MOST && !is_internal(&contents.body) {
@@ -349,13 +353,15 @@ fn frame(header: Header, legacy: bool, contents: Contents) -> Frame
     }
 }
 
-/// Reads one message, which is all of the bytes. It is an OP_MSG with one section of kind 0 and any number of kind 1, or an
-/// OP_QUERY with a document, the body, and maybe a second one, which is dropped. It has at most 48,000,000 bytes, or
+/// Reads one message, which is all of the bytes. It is an OP_MSG with one section of kind 0 and any
+/// number of kind 1, or an OP_QUERY with a document, the body, and maybe a second one, which is
+/// dropped. It has at most 48,000,000 bytes, or
 /// 400,000,000 where the body's first `$db` is the text `mtx`.
 ///
-/// The flags exhaustAllowed and 17 to 31 are passed over, as are all of an OP_QUERY's, and a checksum isn't compared.
-/// Otherwise the first fault is answered, in this order: `Length`; `TooLarge` above 400,000,000; `OpCode`; `Flags`; those of
-/// the parts from front to back; `NoBody`; `TooLarge` for a client's message.
+/// The flags exhaustAllowed and 17 to 31 are passed over, as are all of an OP_QUERY's, and a
+/// checksum isn't compared. Otherwise the first fault is answered, in this order: `Length`;
+/// `TooLarge` above 400,000,000; `OpCode`; `Flags`; those of the parts from front to back;
+/// `NoBody`; `TooLarge` for a client's message.
 ///
 /// It goes through the bytes once, and takes no memory for a size before its bytes stand.
 pub fn read_frame(alloc: Global, bytes: &[u8]) -> Result<Frame, FrameErr>

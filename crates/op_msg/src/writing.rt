@@ -15,7 +15,8 @@ const MOST: u64 = 400_000_000;
 /// The bytes of the header and of the flags.
 const FRONT_SIZE: u64 = 20;
 
-/// The bytes of a sequence beside its name and its documents: the kind, the size, and the 00 behind the name.
+/// The bytes of a sequence beside its name and its documents: the kind, the size, and the 00 behind
+/// the name.
 const SEQUENCE_FRAME: u64 = 6;
 
 /// The bytes of the header of an OP_REPLY and of its numbers.
@@ -48,7 +49,8 @@ fn documents_size(docs: &[Doc]) -> u64
 /// How many bytes the section has that holds the sequence.
 #[tactic(auto, using(crate::proofs::Fronts::length_sequence_section))]
 fn sequence_size(name: &Name, docs: &[Doc]) -> u64
-    ensures { result ≡ min (length (sequence_section name.now (flat_map spelling docs.now))) (2 ^ 64 - 1) }
+    ensures { result
+        ≡ min (length (sequence_section name.now (flat_map spelling docs.now))) (2 ^ 64 - 1) }
 {
     let name = name.as_str().len() as u64;
     documents_size(docs)
@@ -103,7 +105,8 @@ fn flags_of(more: bool) -> u32
 
 /// Appends the message's header, with that length, and its flags.
 fn put_front(out: &mut Vec<u8>, len: u32, frame: &Frame) -> Result<(), FrameErr>
-    ensures ok { OnOk result (out.new.items ≡ out.old.items ++ front len frame.now.request_id frame.now.response_to (flags_of frame.now.more)) }
+    ensures ok { OnOk result (out.new.items ≡ out.old.items
+        ++ front len frame.now.request_id frame.now.response_to (flags_of frame.now.more)) }
     ensures refused { IfErr result (λ e. e ≡ FrameErr.Memory) }
 {
     put_word(out, len)?;
@@ -133,7 +136,8 @@ fn put_documents(out: &mut Vec<u8>, docs: &[Doc]) -> Result<(), FrameErr>
 
 fn put_sequence(out: &mut Vec<u8>, name: &Name, docs: &[Doc]) -> Result<(), FrameErr>
     requires { length (sequence_section name.now (flat_map spelling docs.now)) ≤ MOST }
-    ensures ok { OnOk result (out.new.items ≡ out.old.items ++ sequence_section name.now (flat_map spelling docs.now)) }
+    ensures ok { OnOk result
+        (out.new.items ≡ out.old.items ++ sequence_section name.now (flat_map spelling docs.now)) }
     ensures refused { IfErr result (λ e. e ≡ FrameErr.Memory) }
 {
     // The size in a section doesn't count the kind in front of it.
@@ -166,9 +170,11 @@ fn put_sections(out: &mut Vec<u8>, frame: &Frame) -> Result<(), FrameErr>
     put_sequences(out, frame.seqs.as_slice())
 }
 
-/// Appends the front of an OP_REPLY: the header, with that length, no flags, the cursor 0, and from 0 on one document.
+/// Appends the front of an OP_REPLY: the header, with that length, no flags, the cursor 0, and from
+/// 0 on one document.
 fn put_reply_front(out: &mut Vec<u8>, len: u32, frame: &Frame) -> Result<(), FrameErr>
-    ensures ok { OnOk result (out.new.items ≡ out.old.items ++ reply_front len frame.now.request_id frame.now.response_to) }
+    ensures ok { OnOk result (out.new.items
+        ≡ out.old.items ++ reply_front len frame.now.request_id frame.now.response_to) }
     ensures refused { IfErr result (λ e. e ≡ FrameErr.Memory) }
 {
     put_word(out, len)?;
@@ -220,8 +226,9 @@ fn put_message(out: &mut Vec<u8>, len: u32, frame: &Frame) -> Result<(), FrameEr
     }
 }
 
-/// Appends the message's bytes, in its one spelling: the body first, then the sequences, and no checksum. Of the flags
-/// only moreToCome may be set. A message in the older form is an OP_REPLY, which has one document: the body alone.
+/// Appends the message's bytes, in its one spelling: the body first, then the sequences, and no
+/// checksum. Of the flags only moreToCome may be set. A message in the older form is an OP_REPLY,
+/// which has one document: the body alone.
 ///
 /// It goes through a document at most three times for its size, and once for its bytes.
 pub fn write_frame(alloc: Global, frame: &Frame, out: &mut Vec<u8>) -> Result<(), FrameErr>

@@ -1,4 +1,5 @@
--- Results that go on: what follows is asked only where the result before is Ok, and the first error stays.
+-- Results that go on: what follows is asked only where the result before is Ok, and the first error
+-- stays.
 use Rattle.std.specs.Prelude.{Result, Ok, Err}
 
 infixl 10 ◌>>=◌

@@ -1,5 +1,5 @@
--- A result up to want of memory. What a function gives is defined by a function on lists, which takes no
--- memory; the code answers the same, or that memory ran out.
+-- A result up to want of memory. What a function gives is defined by a function on lists, which
+-- takes no memory; the code answers the same, or that memory ran out.
 use Rattle.std.specs.Prelude.{◌≡◌, Bool, Result, Ok, Err}
 use Rattle.std.specs.Bool.{MatchBool}
 

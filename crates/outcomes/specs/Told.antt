@@ -1,5 +1,5 @@
--- Facts of what an object of the outside tells of itself. A source in memory tells the bytes that it has
--- left; standard input tells nothing, and then nothing is claimed.
+-- Facts of what an object of the outside tells of itself. A source in memory tells the bytes that
+-- it has left; standard input tells nothing, and then nothing is claimed.
 use Rattle.std.specs.Prelude.{Option, Some, None}
 
 -- the fact holds of what is told, where it is told

@@ -30,14 +30,17 @@ Only file images = (c : List ℕ) → images c → c ≡ file
 -- A call of a disk, as a crash sees it: each image that may be left now comes by a step from one
 -- that might have been left before, and what a crash since an earlier moment might have left, it
 -- might have left before the call or may leave now.
-pub record Passes {D : Type 0} (may_leave : D → List ℕ → Type 0) (moment : D → ℕ) (left_since : D → ℕ → List ℕ → Type 0) (step : List ℕ → List ℕ → Type 0) (old new : D) : Type 0 where
+pub record Passes {D : Type 0} (may_leave : D → List ℕ → Type 0) (moment : D → ℕ) (left_since : D
+    → ℕ → List ℕ → Type 0) (step : List ℕ → List ℕ → Type 0) (old new : D) : Type 0 where
   pub follows : (c : List ℕ) → may_leave new c → (d : List ℕ) × may_leave old d × step d c
   pub later : moment old ≤ moment new
-  pub nothing_else : (t : ℕ) (c : List ℕ) → t ≤ moment old → left_since new t c → left_since old t c ⊎ may_leave new c
+  pub nothing_else : (t : ℕ) (c : List ℕ) → t ≤ moment old → left_since new t c
+      → left_since old t c ⊎ may_leave new c
   pub keeps : (t : ℕ) (c : List ℕ) → t ≤ moment old → left_since old t c → left_since new t c
 
 -- A crash at any moment since old, in a call or between two, leaves an image with P.
-pub record LeavesOnly {D : Type 0} (moment : D → ℕ) (left_since : D → ℕ → List ℕ → Type 0) (old new : D) (P : List ℕ → Type 0) : Type 0 where
+pub record LeavesOnly {D : Type 0} (moment : D → ℕ) (left_since : D → ℕ → List ℕ → Type 0)
+    (old new : D) (P : List ℕ → Type 0) : Type 0 where
   pub later : moment old ≤ moment new
   pub each : (c : List ℕ) → left_since new (moment old) c → P c
   -- for a run that began earlier

@@ -29,4 +29,5 @@ fuse_faults f = min (stops_of f + faults_of (disk_within f)) (2 ^ 64 - 1)
 -- a call of it, as a crash sees it: as of the disk within
 abbrev pub PassesWithin : (List ℕ → List ℕ → Type 0) → FuseDisk → FuseDisk → Type 0
 PassesWithin step old new =
-    Passes {D = FuseDisk} (λ f c. c ≡ held f.disk) (λ f. moments f.disk.past) (λ f t c. (c ≡ held f.disk) ⊎ HadSince t f.disk.past c) step old new
+    Passes {D = FuseDisk} (λ f c. c ≡ held f.disk) (λ f. moments f.disk.past)
+    (λ f t c. (c ≡ held f.disk) ⊎ HadSince t f.disk.past c) step old new

@@ -1,5 +1,6 @@
--- Ends of a link. A link counts how often a call found that its peer sends no more; code that is handed the link can't
--- raise the count by itself, so "ended only where the count rose" refuses a body that merely gives up.
+-- Ends of a link. A link counts how often a call found that its peer sends no more; code that is
+-- handed the link can't raise the count by itself, so "ended only where the count rose" refuses a
+-- body that merely gives up.
 use Rattle.std.specs.Prelude.{◌≡◌, ℕ, ◌<◌, ◌≤◌, Result, Ok}
 use Rattle.outcomes.specs.Causes.{Rose}
 

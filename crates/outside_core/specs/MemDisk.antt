@@ -25,11 +25,13 @@ none_since (After' v n p past) t c le (inl here) = omega arith
 none_since (After' v n p past) t c le (inr there) = none_since past t c (omega arith) there
 
 -- since this moment it holds what it holds now
-pub only_held : (d : MemDisk) (c : List ℕ) → (c ≡ held d) ⊎ HadSince (moments d.past) d.past c → c ≡ held d
+pub only_held : (d : MemDisk) (c : List ℕ) → (c ≡ held d) ⊎ HadSince (moments d.past) d.past c
+    → c ≡ held d
 only_held d c (inl now) = now
 only_held d c (inr had) = absurd (none_since d.past (moments d.past) c (omega arith) had)
 
 -- A call of it, as a crash sees it: a crash leaves what it holds, now and at each moment before.
 abbrev pub PassesInMemory : (List ℕ → List ℕ → Type 0) → MemDisk → MemDisk → Type 0
 PassesInMemory step old new =
-    Passes {D = MemDisk} (λ d c. c ≡ held d) (λ d. moments d.past) (λ d t c. (c ≡ held d) ⊎ HadSince t d.past c) step old new
+    Passes {D = MemDisk} (λ d c. c ≡ held d) (λ d. moments d.past)
+    (λ d t c. (c ≡ held d) ⊎ HadSince t d.past c) step old new

@@ -1,5 +1,5 @@
-//! The outside as traits, and their forms in memory. Each trait counts its failed calls, and says what it
-//! has left or holds where it can tell.
+//! The outside as traits, and their forms in memory. Each trait counts its failed calls, and says
+//! what it has left or holds where it can tell.
 #![tactic(auto)]
 
 mod clock;

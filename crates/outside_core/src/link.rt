@@ -26,18 +26,22 @@ pub trait Link {
     /// How often a call found that the peer sends no more.
     ghost end_count: { Self → ℕ };
 
-    /// Appends at most `max` bytes to `out` and answers how many; 0 for a `max` above 0 is the end, which is counted.
+    /// Appends at most `max` bytes to `out` and answers how many; 0 for a `max` above 0 is the end,
+    /// which is counted.
     fn receive(&mut self, max: usize, out: &mut Vec<u8>) -> Result<usize, LinkErr>
-        ensures bytes { ReadsBytes max (left self.old) (left self.new) out.old.items out.new.items result }
+        ensures bytes { ReadsBytes max (left self.old) (left self.new) out.old.items
+            out.new.items result }
         ensures held { held self.new ≡ held self.old }
-        ensures faults { FailsOnly LinkErr.Failed (fault_count self.old) (fault_count self.new) result }
+        ensures faults { FailsOnly LinkErr.Failed (fault_count self.old)
+            (fault_count self.new) result }
         ensures ends { EndsOnly max (end_count self.old) (end_count self.new) result };
 
     /// Takes a front of the bytes, which isn't empty where they aren't, and answers its length.
     fn send(&mut self, bytes: &[u8]) -> Result<usize, LinkErr>
         ensures bytes { TakesBytes (held self.old) (held self.new) bytes.now result }
         ensures left { left self.new ≡ left self.old }
-        ensures faults { FailsOnly LinkErr.Failed (fault_count self.old) (fault_count self.new) result }
+        ensures faults { FailsOnly LinkErr.Failed (fault_count self.old)
+            (fault_count self.new) result }
         ensures ends { end_count self.old ≤ end_count self.new };
 
     /// How often a call has failed; it stands still at 2^64 - 1.
@@ -54,12 +58,14 @@ pub trait Link {
         ensures counts { (fault_count self.new ≡ fault_count self.old) × (end_count self.new ≡ end_count self.old) };
 }
 
-/// Sends all of the bytes, in as many calls as the link wants. After an `Err` a front of them was taken.
+/// Sends all of the bytes, in as many calls as the link wants. After an `Err` a front of them was
+/// taken.
 pub fn send_all<L: Link>(link: &mut L, bytes: &[u8]) -> Result<(), LinkErr>
     ensures whole { OnOk result (Went (L.held link.old) (L.held link.new) bytes.now) }
     ensures part { WentInPart (L.held link.old) (L.held link.new) bytes.now }
     ensures left { L.left link.new ≡ L.left link.old }
-    ensures faults { FailsOnly LinkErr.Failed (L.fault_count link.old) (L.fault_count link.new) result }
+    ensures faults { FailsOnly LinkErr.Failed (L.fault_count link.old)
+        (L.fault_count link.new) result }
     ensures ends { L.end_count link.old ≤ L.end_count link.new }
 {
     let mut rest = bytes;

@@ -10,7 +10,8 @@ pub enum NetErr {
     Failed,
 }
 
-/// What makes links: those that peers ask for at an address of ours, and those that we ask for. No call takes memory.
+/// What makes links: those that peers ask for at an address of ours, and those that we ask for. No
+/// call takes memory.
 pub trait Net {
     /// A link that it makes.
     type L: Link;
@@ -28,7 +29,8 @@ pub trait Net {
 
     /// The next link that a peer asks for.
     fn accept(&mut self) -> Result<Self::L, NetErr>
-        ensures accepted { OnOk result (accept_count self.new ≡ (accept_count self.old + 1) % 2 ^ 64) }
+        ensures accepted { OnOk result
+            (accept_count self.new ≡ (accept_count self.old + 1) % 2 ^ 64) }
         ensures refused { OnErr result (accept_count self.new ≡ accept_count self.old) }
         ensures faults { FailsOnly NetErr.Failed (fault_count self.old) (fault_count self.new) result };
 

@@ -10,7 +10,8 @@ use crate::source::{MemSource, Source};
 use std::alloc::Global;
 use std::marker::Model;
 
-/// A link in memory: the bytes of the peer lie ready, and what is sent is kept. Some of its calls fail.
+/// A link in memory: the bytes of the peer lie ready, and what is sent is kept. Some of its calls
+/// fail.
 #[derive(Drop)]
 pub struct PipeLink {
     source: MemSource,
@@ -32,10 +33,15 @@ impl Model for PipeLink {
 }
 
 impl PipeLink {
-    /// A link whose peer sends these bytes, and whose calls of `receive` and `send`, counted together from 0, fail at these
-    /// numbers.
+    /// A link whose peer sends these bytes, and whose calls of `receive` and `send`, counted
+    /// together from 0, fail at these numbers.
     pub fn of(alloc: Global, bytes: Vec<u8>, fails: Vec<u64>) -> PipeLink
-        ensures { result ≡ record { left = bytes.items; sent = []; fuse = record { fails = fails.items; calls = 0; faults = 0 }; ends = 0 } }
+        ensures { result ≡ record {
+          left = bytes.items;
+          sent = [];
+          fuse = record { fails = fails.items; calls = 0; faults = 0 };
+          ends = 0;
+        } }
     {
         PipeLink {
             source: MemSource::of(bytes, Vec::new(alloc)),
@@ -65,7 +71,8 @@ impl Link for PipeLink {
     ghost end_count = { λ l. l.ends };
 
     fn receive(&mut self, max: usize, out: &mut Vec<u8>) -> Result<usize, LinkErr>
-        ensures bytes { ReadsBytes max (Some self.old.left) (Some self.new.left) out.old.items out.new.items result }
+        ensures bytes { ReadsBytes max (Some self.old.left) (Some self.new.left) out.old.items
+            out.new.items result }
         ensures held { Some self.new.sent ≡ Some self.old.sent }
         ensures faults { FailsOnly LinkErr.Failed self.old.fuse.faults self.new.fuse.faults result }
         ensures ends { EndsOnly max self.old.ends self.new.ends result }
@@ -118,8 +125,10 @@ impl Link for PipeLink {
     }
 
     fn shut(&mut self)
-        ensures bytes { (Some self.new.left ≡ Some self.old.left) × (Some self.new.sent ≡ Some self.old.sent) }
-        ensures counts { (self.new.fuse.faults ≡ self.old.fuse.faults) × (self.new.ends ≡ self.old.ends) }
+        ensures bytes { (Some self.new.left ≡ Some self.old.left)
+            × (Some self.new.sent ≡ Some self.old.sent) }
+        ensures counts { (self.new.fuse.faults ≡ self.old.fuse.faults)
+            × (self.new.ends ≡ self.old.ends) }
         ensures same { self.new ≡ self.old }
     {}
 }

@@ -54,9 +54,12 @@ where
     /// Keeps the job that `running` has, and counts it.
     fn keep(&mut self, running: &mut Option<Running<J>>)
         requires { has_room self.old }
-        ensures standing { IfSome running.old (λ r. standing self.new ≡ standing self.old ++ r.handle.promise.0.value ∷ []) }
-        ensures started { IfSome running.old (λ r. start_count self.new ≡ (start_count self.old + 1) % 2 ^ 64) }
-        ensures most { IfSome running.old (λ r. most_standing self.new ≡ max (most_standing self.old) (length (standing self.new))) }
+        ensures standing { IfSome running.old
+            (λ r. standing self.new ≡ standing self.old ++ r.handle.promise.0.value ∷ []) }
+        ensures started { IfSome running.old
+            (λ r. start_count self.new ≡ (start_count self.old + 1) % 2 ^ 64) }
+        ensures most { IfSome running.old (λ r. most_standing self.new
+            ≡ max (most_standing self.old) (length (standing self.new))) }
         ensures faults { fault_count self.new ≡ fault_count self.old };
 
     /// Counts a start that has failed.
@@ -71,11 +74,13 @@ where
     final fn start(&mut self, job: J) -> Result<(), SpawnErr>
         ensures standing { OnOk result (standing self.new ≡ standing self.old ++ job ∷ []) }
         ensures started { OnOk result (start_count self.new ≡ (start_count self.old + 1) % 2 ^ 64) }
-        ensures most { OnOk result (most_standing self.new ≡ max (most_standing self.old) (length (standing self.new))) }
+        ensures most { OnOk result
+            (most_standing self.new ≡ max (most_standing self.old) (length (standing self.new))) }
         ensures standing_refused { OnErr result (standing self.new ≡ standing self.old) }
         ensures started_refused { OnErr result (start_count self.new ≡ start_count self.old) }
         ensures most_refused { OnErr result (most_standing self.new ≡ most_standing self.old) }
-        ensures faults { FailsOnly SpawnErr.Failed (fault_count self.old) (fault_count self.new) result }
+        ensures faults { FailsOnly SpawnErr.Failed (fault_count self.old)
+            (fault_count self.new) result }
     {
         if self.make_room().is_err() {
             return Err(SpawnErr::Memory);
@@ -92,10 +97,12 @@ where
         }
     }
 
-    /// Waits for the job that was started first of those that stand, and answers what it gave; `None` where none stands.
+    /// Waits for the job that was started first of those that stand, and answers what it gave;
+    /// `None` where none stands.
     fn gather(&mut self) -> Option<J::Out>
         ensures none { IfNone result ((standing self.old ≡ []) × (standing self.new ≡ [])) }
-        ensures some { IfSome result (λ out. (job : J) × (standing self.old ≡ job ∷ standing self.new) × J.gives job out) }
+        ensures some { IfSome result
+            (λ out. (job : J) × (standing self.old ≡ job ∷ standing self.new) × J.gives job out) }
         ensures started { start_count self.new ≡ start_count self.old }
         ensures most { most_standing self.new ≡ most_standing self.old }
         ensures faults { fault_count self.new ≡ fault_count self.old };

@@ -8,7 +8,8 @@ use std::io;
 use std::os::unix::fs::FileExt;
 use std::rt::Files;
 
-/// A file of the system, opened at its first call, and made where there is none. It tells nothing of its bytes.
+/// A file of the system, opened at its first call, and made where there is none. It tells nothing
+/// of its bytes.
 #[derive(Drop)]
 pub struct FileDisk<R: Files<File = File> + Drop> {
     rt: R,
@@ -75,8 +76,8 @@ fn length_of(file: &File) -> io::Result<u64> {
     Ok(file.metadata()?.len())
 }
 
-// Reads as far as the file's length, and answers how many bytes these are. A file that has become shorter meanwhile is
-// a failure.
+// Reads as far as the file's length, and answers how many bytes these are. A file that has become
+// shorter meanwhile is a failure.
 fn read_whole(file: &File, at: u64, out: &mut [u8]) -> io::Result<usize>
     ensures { IfOk result (λ n. n ≤ length out.old) }
 {

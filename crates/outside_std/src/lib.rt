@@ -1,5 +1,6 @@
-//! The outside as the system has it: files as disks, TCP as links and nets, the system's clock and threads. Of bytes and of
-//! files nothing is said, since no contract can say what the system gives; what is said is the counts.
+//! The outside as the system has it: files as disks, TCP as links and nets, the system's clock and
+//! threads. Of bytes and of files nothing is said, since no contract can say what the system gives;
+//! what is said is the counts.
 #![tactic(auto)]
 
 mod file_disk;

@@ -4,7 +4,8 @@ use outside_core::{Clock, MemErr};
 use std::time;
 use std::time::SystemTime;
 
-/// The system's clock. One that can't be read, or that stands before 1970, tells 0; one past the year 2106 the last second.
+/// The system's clock. One that can't be read, or that stands before 1970, tells 0; one past the
+/// year 2106 the last second.
 #[derive(Drop)]
 pub struct SystemClock<R: time::Clock + Clone + Drop> {
     rt: R,

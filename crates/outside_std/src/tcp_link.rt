@@ -9,7 +9,8 @@ use std::net::{Shutdown, TcpStream};
 /// No call of `receive` takes more bytes.
 const PIECE: usize = 4096;
 
-/// A TCP connection. It tells nothing of its bytes. Once it is shut, the peer's `receive` meets the end.
+/// A TCP connection. It tells nothing of its bytes. Once it is shut, the peer's `receive` meets the
+/// end.
 #[derive(Drop)]
 pub struct TcpLink {
     stream: TcpStream,

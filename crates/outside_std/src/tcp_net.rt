@@ -6,7 +6,8 @@ use outside_core::{Net, NetErr};
 use std::net;
 use std::net::{TcpListener, TcpStream};
 
-/// TCP over the system's sockets. It listens at one address, the last that it was told; before that `accept` fails.
+/// TCP over the system's sockets. It listens at one address, the last that it was told; before that
+/// `accept` fails.
 #[derive(Drop)]
 pub struct TcpNet<R: net::Net<Listener = TcpListener, Stream = TcpStream> + Drop> {
     rt: R,

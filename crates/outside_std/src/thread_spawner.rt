@@ -65,9 +65,13 @@ where
 
     fn keep(&mut self, running: &mut Option<Running<J>>)
         requires { deque_len self.old.running < deque_capacity self.old.running }
-        ensures standing { IfSome running.old (λ r. map (λ r. r.handle.promise.0.value) self.new.running.items ≡ map (λ r. r.handle.promise.0.value) self.old.running.items ++ r.handle.promise.0.value ∷ []) }
-        ensures started { IfSome running.old (λ r. self.new.started ≡ (self.old.started + 1) % 2 ^ 64) }
-        ensures most { IfSome running.old (λ r. self.new.most ≡ max self.old.most (length (map (λ r. r.handle.promise.0.value) self.new.running.items))) }
+        ensures standing { IfSome running.old (λ r. map (λ r. r.handle.promise.0.value)
+            self.new.running.items ≡ map (λ r. r.handle.promise.0.value) self.old.running.items
+            ++ r.handle.promise.0.value ∷ []) }
+        ensures started { IfSome running.old
+            (λ r. self.new.started ≡ (self.old.started + 1) % 2 ^ 64) }
+        ensures most { IfSome running.old (λ r. self.new.most ≡ max self.old.most
+            (length (map (λ r. r.handle.promise.0.value) self.new.running.items))) }
         ensures faults { self.new.faults ≡ self.old.faults }
     {
         if let Some(running) = running.take() {

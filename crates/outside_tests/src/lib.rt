@@ -1,5 +1,5 @@
-//! Tests of the outside, in memory and over the system. They stand in a crate of their own, since a crate with tests is proved
-//! twice.
+//! Tests of the outside, in memory and over the system. They stand in a crate of their own, since a
+//! crate with tests is proved twice.
 #![tactic(auto)]
 
 #[cfg(test)]

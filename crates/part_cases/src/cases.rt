@@ -3,19 +3,23 @@ use std::alloc::{AllocError, Global};
 
 /// A file of cases that is run: how many there were, the number of the line, and the part.
 ///
-/// A line is a comment, which begins with `#`, or what is asked and what is answered to it, `ASKED -> ANSWERED`, or one
-/// of these, which set something:
+/// A line is a comment, which begins with `#`, or what is asked and what is answered to it, `ASKED
+/// -> ANSWERED`, or one of these, which set something:
 ///
-/// - `new B LIMIT`: a part of shard 0 at boot B without sessions and documents, where LIMIT sessions may come; its clock
+/// - `new B LIMIT`: a part of shard 0 at boot B without sessions and documents, where LIMIT
+///   sessions may come; its clock
 ///   has told no time, and the wall is 1.
-/// - `wall SECONDS`, and `clock TIME`, which a clock was at last. A time is `SECONDS.COUNT`, or `0` for none.
+/// - `wall SECONDS`, and `clock TIME`, which a clock was at last. A time is `SECONDS.COUNT`, or `0`
+///   for none.
 ///
-/// In what is asked a letter says what a number is: s a session, n the number of a transaction in it, t a transaction, k
-/// the place of a statement in it, b a boot, r a read timestamp, c the coordinator, w why it is aborted, v the cause with
-/// which shard 1 voted.
+/// In what is asked a letter says what a number is: s a session, n the number of a transaction in
+/// it, t a transaction, k the place of a statement in it, b a boot, r a read timestamp, c the
+/// coordinator, w why it is aborted, v the cause with which shard 1 voted.
 ///
-/// - `statement s n t k b r OPERATION`; the operation is `insert ID A`, the document `{_id: ID, a: A}`, `texts ID COUNT
-///   LENGTH`, so many documents from this id on, each with a text, `find` or `find ID`, `inc ID BY` or `inc all BY`,
+/// - `statement s n t k b r OPERATION`; the operation is `insert ID A`, the document `{_id: ID, a:
+///   A}`, `texts ID COUNT
+///   LENGTH`, so many documents from this id on, each with a text, `find` or `find ID`, `inc ID BY`
+///   or `inc all BY`,
 ///   `delete ID` or `delete all`.
 /// - `commit s n t b`, `prepare s n t b c`, `recover s n t b`, `abort s n t w`.
 /// - `decide s n t commit TIME`, `decide s n t abort v`.

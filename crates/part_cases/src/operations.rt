@@ -31,7 +31,8 @@ fn insert(alloc: Global, id: i32, value: Value) -> Result<Op, AllocError> {
     })
 }
 
-/// An insert of so many documents, whose ids follow one another, with a text of so many letters each.
+/// An insert of so many documents, whose ids follow one another, with a text of so many letters
+/// each.
 fn texts(alloc: Global, first: i32, count: u32, length: u32) -> Result<Op, AllocError> {
     let mut docs = InsertItems::new(alloc);
     for index in 0..count {

@@ -119,7 +119,8 @@ impl Standing {
         self.send(alloc, &m, out)
     }
 
-    /// A statement goes to the part, unless another session has its transaction, or it reads above the clock.
+    /// A statement goes to the part, unless another session has its transaction, or it reads above
+    /// the clock.
     fn send(&mut self, alloc: Global, m: &Statement, out: &mut String) -> Result<(), AllocError> {
         if self.part.elsewhere(&m.lsid, m.tag) {
             return out.push_str("another session has it");

@@ -15,8 +15,10 @@ use Rattle.part_laws.specs.Parts.{IsServing, SameBut, Holds}
 -- a commit's record adds its entry to the commits, by its time
 abbrev pub Enters : Opens → Part → ℕ → List Entry → List Served → Rec → Type 0
 Enters old q last entries served (rec.Commit tag lsid number read_at at writes) =
-    (last < at) × ((before behind : List Entry) → entries ≡ before ++ behind → Each (λ e. at ≤ e.at) behind
-    → Holds old q at (before ++ record { tag = tag; read_at = read_at; at = at; writes = writes } ∷ behind) served)
+    (last < at)
+    × ((before behind : List Entry) → entries ≡ before ++ behind → Each (λ e. at ≤ e.at) behind
+    → Holds old q at (before ++ record { tag = tag; read_at = read_at; at = at; writes = writes }
+    ∷ behind) served)
 Enters old q last entries served other = ⊥
 
 abbrev pub CommitsBy : Opens → Part → ℕ → ℕ → List Entry → List Served → Option Rec → Type 0
@@ -25,15 +27,19 @@ CommitsBy old q last later entries served (Some r) = Enters old q last entries s
 
 -- behind a commit
 abbrev pub Commits : {A : Type 0} → Opens → ℕ → List Entry → List Served → Change A → Type 0
-Commits old last entries served change = CommitsBy old change.part last change.last entries served change.rec
+Commits old last entries served change =
+    CommitsBy old change.part last change.last entries served change.rec
 
 -- the transaction stands prepared
 abbrev pub Stands : Opens → Tag → ℕ → ℕ → List Write → Type 0
-Stands opens tag read_at at writes = (o : Opened) × (opens tag ≡ Some o) × (o.prepared ≡ Some at) × (o.decided ≡ None) × (o.read_at ≡ read_at) × (o.writes ≡ writes)
+Stands opens tag read_at at writes = (o : Opened) × (opens tag ≡ Some o) × (o.prepared ≡ Some at)
+    × (o.decided ≡ None) × (o.read_at ≡ read_at) × (o.writes ≡ writes)
 
 -- a prepare's record leaves the commits, and what it tells stands prepared
 abbrev pub Keeps : Opens → Part → ℕ → List Entry → List Served → Rec → Type 0
-Keeps old q last entries served (rec.Prepared tag lsid number boot read_at at coordinator writes) = (last < at) × ((opens : Opens) × IsServing q opens at entries served × Stands opens tag read_at at writes × SameBut tag old opens)
+Keeps old q last entries served (rec.Prepared tag lsid number boot read_at at coordinator writes) =
+    (last < at) × ((opens : Opens) × IsServing q opens at entries served
+    × Stands opens tag read_at at writes × SameBut tag old opens)
 Keeps old q last entries served other = ⊥
 
 abbrev pub PreparesBy : Opens → Part → ℕ → ℕ → List Entry → List Served → Option Rec → Type 0
@@ -41,8 +47,10 @@ PreparesBy old q last later entries served None = (later ≡ last) × Holds old 
 PreparesBy old q last later entries served (Some r) = Keeps old q last entries served r
 
 abbrev pub Prepares : {A : Type 0} → Opens → ℕ → List Entry → List Served → Change A → Type 0
-Prepares old last entries served change = PreparesBy old change.part last change.last entries served change.rec
+Prepares old last entries served change =
+    PreparesBy old change.part last change.last entries served change.rec
 
 -- what a decision says of a prepared transaction is among the commits, or it aborts
 abbrev pub IsDecided : Opens → Decide → Type 0
-IsDecided opens m = (o : Opened) (since : ℕ) → opens m.tag ≡ Some o → o.prepared ≡ Some since → o.decided ≡ commit_time m.decision
+IsDecided opens m = (o : Opened) (since : ℕ) → opens m.tag ≡ Some o → o.prepared ≡ Some since
+    → o.decided ≡ commit_time m.decision

@@ -1,6 +1,8 @@
--- What the calls of a shard's part need of it, and keep: of all that belongs to a part, the keys of the transactions that
--- are live or prepared, that each such one is of one session, and that no other has a version.
-use Rattle.std.specs.Prelude.{◌≡◌, ◌-◌, ℕ, min, nat_eq, nat_lt, Bool, true, false, List, [], ◌∷◌, map, Option, Some, None, Result, Ok, Err, IfSome, if◌then◌else◌}
+-- What the calls of a shard's part need of it, and keep: of all that belongs to a part, the keys of
+-- the transactions that are live or prepared, that each such one is of one session, and that no
+-- other has a version.
+use Rattle.std.specs.Prelude.{◌≡◌, ◌-◌, ℕ, min, nat_eq, nat_lt, Bool, true, false, List, [], ◌∷◌}
+use Rattle.std.specs.Prelude.{map, Option, Some, None, Result, Ok, Err, IfSome, if◌then◌else◌}
 use Rattle.txn_types.specs.Order.{same_tag, same_lsid}
 use Rattle.txn_types.specs.declared.message.Statement.{Statement}
 use Rattle.txn_types.specs.declared.names.Tag.{Tag}
@@ -24,10 +26,12 @@ use Rattle.participant.specs.declared.said.Meant.TheVariants.{HeldBy, Refused, D
 use Rattle.participant.specs.Expiry.{lifetime}
 use Rattle.participant.specs.Part.{Part, session, open_of, is_open}
 
--- a live transaction has something here, and its versions are of the documents that it wrote; no other has
+-- a live transaction has something here, and its versions are of the documents that it wrote; no
+-- other has
 abbrev pub StateAt : Versions → Session → SessionState → Option Open → Type 0
 StateAt store s state.Live None = ⊥
-StateAt store s state.Live (Some o) = (o.tag ≡ s.tag) × (map place_of o.writes ≡ keys_of s.tag store)
+StateAt store s state.Live (Some o) = (o.tag ≡ s.tag)
+    × (map place_of o.writes ≡ keys_of s.tag store)
 StateAt store s (state.Prepared at coordinator) o = o ≡ None
 StateAt store s (state.Committed at) o = o ≡ None
 StateAt store s state.Released o = o ≡ None
@@ -40,7 +44,8 @@ SessionAt store (Some s) o = StateAt store s s.state o
 -- the keys of the newest prepared transaction of a tag, or these where there is none
 abbrev pub newest_keys : Tag → List Place → List Pending → List Place
 newest_keys tag keys [] = keys
-newest_keys tag keys (q ∷ pending) = newest_keys tag (if same_tag q.tag tag then q.keys else keys) pending
+newest_keys tag keys (q ∷ pending) =
+    newest_keys tag (if same_tag q.tag tag then q.keys else keys) pending
 
 -- the keys of a tag among the prepared transactions
 abbrev pub pending_keys : Part → Tag → List Place
@@ -48,14 +53,19 @@ pending_keys p tag = newest_keys tag [] p.pending
 
 -- no session has this tag, live or prepared
 abbrev pub IsClosed : Part → Tag → Type 0
-IsClosed p tag = (lsid : Lsid) (s : Session) → session p lsid ≡ Some s → is_open s.state ≡ true → same_tag s.tag tag ≡ false
+IsClosed p tag = (lsid : Lsid) (s : Session) → session p lsid ≡ Some s → is_open s.state ≡ true
+    → same_tag s.tag tag ≡ false
 
--- each session has what its state says; one whose transaction is prepared has its keys among the prepared ones; open
--- transactions of one tag are of one session; and what isn't committed is of an open one
+-- each session has what its state says; one whose transaction is prepared has its keys among the
+-- prepared ones; open transactions of one tag are of one session; and what isn't committed is of an
+-- open one
 pub record Stands (p : Part) : Type 0 where
   pub sessions : (lsid : Lsid) → SessionAt p.store (session p lsid) (open_of p lsid)
-  pub pending : (lsid : Lsid) (s : Session) (at coordinator : ℕ) → session p lsid ≡ Some s → s.state ≡ state.Prepared at coordinator → pending_keys p s.tag ≡ keys_of s.tag p.store
-  pub apart : (a b : Lsid) (s t : Session) → session p a ≡ Some s → session p b ≡ Some t → is_open s.state ≡ true → is_open t.state ≡ true → same_tag s.tag t.tag ≡ true → same_lsid a b ≡ true
+  pub pending : (lsid : Lsid) (s : Session) (at coordinator : ℕ) → session p lsid ≡ Some s
+      → s.state ≡ state.Prepared at coordinator → pending_keys p s.tag ≡ keys_of s.tag p.store
+  pub apart : (a b : Lsid) (s t : Session) → session p a ≡ Some s → session p b ≡ Some t
+      → is_open s.state ≡ true → is_open t.state ≡ true → same_tag s.tag t.tag ≡ true
+      → same_lsid a b ≡ true
   pub owned : (tag : Tag) → IsClosed p tag → keys_of tag p.store ≡ []
 
 -- whether a transaction wrote here
@@ -69,7 +79,8 @@ has_writes (Some o) = has_written o.writes
 
 -- what stands among the prepared transactions for one that was live
 abbrev pub pending_of : Lsid → Open → Pending
-pending_of lsid o = record { tag = o.tag; lsid = lsid; read_at = o.read_at; keys = map place_of o.writes }
+pending_of lsid o =
+    record { tag = o.tag; lsid = lsid; read_at = o.read_at; keys = map place_of o.writes }
 
 -- whether a live transaction is too old
 abbrev pub is_older : ℕ → Lsid × Open → Bool
@@ -113,7 +124,8 @@ IsNext m at o = (o.read_at ≡ at) × (nat_eq m.k o.k ≡ false) × (nat_lt m.k 
 abbrev pub CanLeave : Option Session → Type 0
 CanLeave s = IfSome s (λ t. prepared_at t.state ≡ None)
 
--- what comes of an operation over what a transaction sees: a key is held, it is refused, or its reply and writes
+-- what comes of an operation over what a transaction sees: a key is held, it is refused, or its
+-- reply and writes
 abbrev pub meant_over : Meaning → Meant
 meant_over (Err err) = Refused err
 meant_over (Ok done) = Does done.0 done.1

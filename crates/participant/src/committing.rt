@@ -28,7 +28,8 @@ fn tells(told: Told) -> Done
 }
 
 impl Participant {
-    /// What a shard tells of a commit that it makes alone: its clock's next time, with a record of what was written.
+    /// What a shard tells of a commit that it makes alone: its clock's next time, with a record of
+    /// what was written.
     #[tactic(auto, unfolding(crate::specs::Commit::commit))]
     pub fn commit(
         &mut self,
@@ -36,11 +37,14 @@ impl Participant {
         wall: u32,
         m: &Commit,
     ) -> Result<Done, PartErr>
-        requires clock { (clock.old.last ≡ last_time) ⊎ (next_time clock.old.last wall ≤ clock.old.ceiling) }
-        ensures done { IfOk result (λ done. commit self.old clock.old.last wall m.now ≡ record { told = done.told; rec = done.rec; last = clock.new.last; part = self.new }) }
+        requires clock { (clock.old.last ≡ last_time)
+            ⊎ (next_time clock.old.last wall ≤ clock.old.ceiling) }
+        ensures done { IfOk result (λ done. commit self.old clock.old.last wall m.now
+            ≡ record { told = done.told; rec = done.rec; last = clock.new.last; part = self.new }) }
         ensures ceiling { clock.new.ceiling ≡ clock.old.ceiling }
         ensures err { OnErr result ((self.new ≡ self.old) × (clock.new ≡ clock.old)) }
-        ensures memory { OnErr result (may_tell_memory self.old m.now.lsid m.now.number m.now.tag ≡ true) }
+        ensures memory { OnErr result
+            (may_tell_memory self.old m.now.lsid m.now.number m.now.tag ≡ true) }
     {
         let Some(session) = self.session(&m.lsid) else {
             return Ok(self.commit_none(m));
@@ -69,7 +73,10 @@ impl Participant {
 
     /// What is told of a transaction that isn't here.
     fn commit_none(&self, m: &Commit) -> Done
-        ensures { result ≡ record { told = Some (told.Aborted (cause.Unavailable m.now.boot self.now.boot)); rec = None } }
+        ensures { result ≡ record {
+          told = Some (told.Aborted (cause.Unavailable m.now.boot self.now.boot));
+          rec = None;
+        } }
     {
         tells(Told::Aborted {
             cause: Cause::Unavailable {
@@ -81,9 +88,16 @@ impl Participant {
 
     /// What is told of a live transaction, and what becomes of it.
     fn commit_live(&mut self, clock: &mut HybridClock, wall: u32, m: &Commit) -> Done
-        requires clock { (clock.old.last ≡ last_time) ⊎ (next_time clock.old.last wall ≤ clock.old.ceiling) }
+        requires clock { (clock.old.last ≡ last_time)
+            ⊎ (next_time clock.old.last wall ≤ clock.old.ceiling) }
         requires live { IsSomeAnd (session self.old m.now.lsid) (λ s. s.state ≡ state.Live) }
-        ensures done { (s : Session) → session self.old m.now.lsid ≡ Some s → commits_live self.old clock.old.last wall m.now s ≡ record { told = result.told; rec = result.rec; last = clock.new.last; part = self.new } }
+        ensures done { (s : Session) → session self.old m.now.lsid ≡ Some s
+            → commits_live self.old clock.old.last wall m.now s ≡ record {
+              told = result.told;
+              rec = result.rec;
+              last = clock.new.last;
+              part = self.new;
+            } }
         ensures ceiling { clock.new.ceiling ≡ clock.old.ceiling }
     {
         if m.boot != self.boot {
@@ -124,7 +138,9 @@ impl Participant {
     fn commit_fails(&mut self, m: &Commit, cause: Cause, again: Cause) -> Done
         requires live { IsSomeAnd (session self.old m.now.lsid) (λ s. s.state ≡ state.Live) }
         requires again { again ≡ cause }
-        ensures { (last : ℕ) (s : Session) → session self.old m.now.lsid ≡ Some s → fails self.old last m.now s cause ≡ record { told = result.told; rec = result.rec; last = last; part = self.new } }
+        ensures { (last : ℕ) (s : Session) → session self.old m.now.lsid ≡ Some s
+            → fails self.old last m.now s cause
+            ≡ record { told = result.told; rec = result.rec; last = last; part = self.new } }
     {
         self.end_live(&m.lsid, cause);
         tells(Told::Aborted { cause: again })
@@ -134,7 +150,9 @@ impl Participant {
     fn release(&mut self, m: &Commit) -> Done
         requires live { IsSomeAnd (session self.old m.now.lsid) (λ s. s.state ≡ state.Live) }
         requires none { has_writes (open_of self.old m.now.lsid) ≡ false }
-        ensures { (last : ℕ) (s : Session) → session self.old m.now.lsid ≡ Some s → releases self.old last m.now s ≡ record { told = result.told; rec = result.rec; last = last; part = self.new } }
+        ensures { (last : ℕ) (s : Session) → session self.old m.now.lsid ≡ Some s
+            → releases self.old last m.now s
+            ≡ record { told = result.told; rec = result.rec; last = last; part = self.new } }
     {
         let _count = self.live.len();
         let live = self.live.take_out(&m.lsid);
@@ -156,7 +174,9 @@ impl Participant {
     /// The transaction commits at this time; the record of it.
     fn commit_at(&mut self, m: &Commit, at: Ts) -> Option<Rec>
         requires { IsSomeAnd (session self.old m.now.lsid) (λ s. s.state ≡ state.Live) }
-        ensures { (s : Session) (o : Open) → session self.old m.now.lsid ≡ Some s → open_of self.old m.now.lsid ≡ Some o → commits self.old m.now s o at ≡ record { told = Some (told.Committed at); rec = result; last = at; part = self.new } }
+        ensures { (s : Session) (o : Open) → session self.old m.now.lsid ≡ Some s
+            → open_of self.old m.now.lsid ≡ Some o → commits self.old m.now s o at
+            ≡ record { told = Some (told.Committed at); rec = result; last = at; part = self.new } }
     {
         let _count = self.live.len();
         let number = self.number(&m.lsid);

@@ -38,7 +38,8 @@ fn state_behind(decision: &Decision) -> SessionState
     }
 }
 
-/// The keys of the newest prepared transaction of the tag; none, where there is no such transaction.
+/// The keys of the newest prepared transaction of the tag; none, where there is no such
+/// transaction.
 fn newest_keys<'a>(tag: &Tag, pendings: &'a [Pending]) -> &'a [Key]
     ensures { result.now ≡ newest_keys tag.now [] pendings.now }
 {
@@ -64,8 +65,8 @@ fn record_of(m: &Decide, session: &Session) -> Decided
 }
 
 impl Participant {
-    /// Applies a coordinator's decision, and answers the record of it; none, where it changes nothing or ends a
-    /// transaction that wasn't prepared. It takes no memory.
+    /// Applies a coordinator's decision, and answers the record of it; none, where it changes
+    /// nothing or ends a transaction that wasn't prepared. It takes no memory.
     #[tactic(auto, unfolding(crate::specs::Decide::decide))]
     pub fn decide(&mut self, m: &Decide) -> Option<Decided>
         ensures { decide self.old m.now ≡ (result, self.new) }
@@ -91,7 +92,8 @@ impl Participant {
     /// A decision to abort ends the live transaction.
     fn decide_live(&mut self, m: &Decide)
         requires { IsSomeAnd (session self.old m.now.lsid) (λ s. s.state ≡ state.Live) }
-        ensures { (s : Session) → session self.old m.now.lsid ≡ Some s → decides_live self.old m.now s m.now.decision ≡ (None, self.new) }
+        ensures { (s : Session) → session self.old m.now.lsid ≡ Some s
+            → decides_live self.old m.now s m.now.decision ≡ (None, self.new) }
     {
         match m.decision {
             Decision::Commit(_at) => {}
@@ -104,7 +106,8 @@ impl Participant {
     /// The transaction is prepared at this time: a commit below it changes nothing.
     fn decide_prepared(&mut self, m: &Decide, at: Ts) -> Option<Decided>
         requires { IsSomeAnd (session self.old m.now.lsid) (λ s. prepared_at s.state ≡ Some at) }
-        ensures { (s : Session) → session self.old m.now.lsid ≡ Some s → decides_prepared self.old m.now s at m.now.decision ≡ (result, self.new) }
+        ensures { (s : Session) → session self.old m.now.lsid ≡ Some s
+            → decides_prepared self.old m.now s at m.now.decision ≡ (result, self.new) }
     {
         match m.decision {
             Decision::Commit(time) => {
@@ -120,7 +123,8 @@ impl Participant {
     /// The prepared transaction ends as it is decided; the record of it.
     fn apply(&mut self, m: &Decide) -> Option<Decided>
         requires { IsSomeAnd (session self.old m.now.lsid) (λ s. IsSome (prepared_at s.state)) }
-        ensures { (s : Session) → session self.old m.now.lsid ≡ Some s → applies self.old m.now s ≡ (result, self.new) }
+        ensures { (s : Session) → session self.old m.now.lsid ≡ Some s
+            → applies self.old m.now s ≡ (result, self.new) }
     {
         let session = self.session(&m.lsid)?;
         let tag = session.tag;

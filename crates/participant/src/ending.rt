@@ -29,12 +29,14 @@ impl Participant {
         }
     }
 
-    /// What is told to a router that looks for a transaction's end. One that is live is ended first.
+    /// What is told to a router that looks for a transaction's end. One that is live is ended
+    /// first.
     #[tactic(auto, unfolding(crate::specs::Recover::recover))]
     pub fn recover(&mut self, m: &Recover) -> Result<Told, PartErr>
         ensures told { IfOk result (λ told. recover self.old m.now ≡ (told, self.new)) }
         ensures err { OnErr result (self.new ≡ self.old) }
-        ensures memory { OnErr result (may_tell_memory self.old m.now.lsid m.now.number m.now.tag ≡ true) }
+        ensures memory { OnErr result
+            (may_tell_memory self.old m.now.lsid m.now.number m.now.tag ≡ true) }
     {
         let Some(session) = self.session(&m.lsid) else {
             return Ok(self.recover_none(m));
@@ -63,7 +65,8 @@ impl Participant {
         }
     }
 
-    /// What is told of a transaction that left nothing here: it is lost where the shard was started again since.
+    /// What is told of a transaction that left nothing here: it is lost where the shard was started
+    /// again since.
     fn recover_none(&self, m: &Recover) -> Told
         ensures { recovers_none self.now m.now ≡ (result, self.now) }
     {

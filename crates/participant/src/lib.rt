@@ -1,4 +1,5 @@
-//! A shard's part in transactions: statements, commit, prepare, decision, abort, recovery and expiry.
+//! A shard's part in transactions: statements, commit, prepare, decision, abort, recovery and
+//! expiry.
 #![tactic(auto)]
 
 mod clock;

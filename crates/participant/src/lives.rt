@@ -139,10 +139,12 @@ impl Lives {
         self.lives.get(&SessionKey::new(lsid))
     }
 
-    /// The first session, in their order, whose transaction became live more than 60 seconds before the wall; and when.
+    /// The first session, in their order, whose transaction became live more than 60 seconds before
+    /// the wall; and when.
     pub fn first_older(&self, wall: u32) -> Option<(Lsid, u32)>
         ensures rises { Rises lsid_cmp self.now }
-        ensures first { result ≡ option_map (λ e. (e.0, e.1.begun)) (find (is_older wall) self.now) }
+        ensures first { result
+            ≡ option_map (λ e. (e.0, e.1.begun)) (find (is_older wall) self.now) }
     {
         let _count = self.len();
         for (key, live) in self.lives.iter() {
@@ -154,7 +156,8 @@ impl Lives {
         None
     }
 
-    /// Puts what the session's live transaction has, whatever stood there; only a session that is new may want memory.
+    /// Puts what the session's live transaction has, whatever stood there; only a session that is
+    /// new may want memory.
     pub fn put(&mut self, lsid: &Lsid, live: Live) -> Result<(), AllocFailed<Live>>
         ensures ok { OnOk result (self.new ≡ put lsid_cmp lsid.now live self.old) }
         ensures there { IsSome (entry_of lsid.now self.old) → IsOk result }

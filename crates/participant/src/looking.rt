@@ -25,7 +25,8 @@ fn is_open(state: &SessionState) -> bool
 
 /// Whether it is another session, with this tag, live or prepared.
 fn has_tag(other: &Lsid, session: &Session, lsid: &Lsid, tag: &Tag) -> bool
-    ensures { result ≡ (not (same_lsid other.now lsid.now) && same_tag session.now.tag tag.now && is_open session.now.state) }
+    ensures { result ≡ (not (same_lsid other.now lsid.now) && same_tag session.now.tag tag.now
+        && is_open session.now.state) }
 {
     !is_same_lsid(other, lsid) && is_same_tag(&session.tag, tag) && is_open(&session.state)
 }
@@ -55,7 +56,8 @@ fn lesser(a: Option<Ts>, b: Option<Ts>) -> Option<Ts>
 }
 
 impl Participant {
-    /// Whether another session has this tag, live or prepared. It goes through all sessions, and takes no memory.
+    /// Whether another session has this tag, live or prepared. It goes through all sessions, and
+    /// takes no memory.
     pub fn elsewhere(&self, lsid: &Lsid, tag: Tag) -> bool
         ensures { result ≡ elsewhere self.now lsid.now tag }
     {
@@ -69,7 +71,8 @@ impl Participant {
 
     /// Whether the session that came at this place is such.
     fn is_elsewhere(&self, place: usize, lsid: &Lsid, tag: &Tag) -> bool
-        ensures { (e : Lsid × Session) → slice_get self.now.sessions.entries place ≡ Some e → result ≡ (not (same_lsid e.0 lsid.now) && same_tag e.1.tag tag.now && is_open e.1.state) }
+        ensures { (e : Lsid × Session) → slice_get self.now.sessions.entries place ≡ Some e → result
+            ≡ (not (same_lsid e.0 lsid.now) && same_tag e.1.tag tag.now && is_open e.1.state) }
     {
         match self.sessions.entry(place) {
             Some((other, session)) => has_tag(other, session, lsid, tag),
@@ -90,7 +93,8 @@ impl Participant {
 
     /// When the transaction of the session that came at this place was prepared.
     fn prepared_at(&self, place: usize) -> Option<Ts>
-        ensures { (e : Lsid × Session) → slice_get self.now.sessions.entries place ≡ Some e → result ≡ prepared_at e.1.state }
+        ensures { (e : Lsid × Session) → slice_get self.now.sessions.entries place ≡ Some e
+            → result ≡ prepared_at e.1.state }
     {
         match self.sessions.entry(place) {
             Some((_lsid, session)) => prepared_at(&session.state),

@@ -13,8 +13,8 @@ use std::marker::Model;
 use txn_types::{Cause, Lsid, Ts, Write};
 use version_store::{Pendings, Store, copy_pendings};
 
-/// A shard's part in transactions: its sessions, what its live transactions have, its prepared ones, and the versions of
-/// its documents.
+/// A shard's part in transactions: its sessions, what its live transactions have, its prepared
+/// ones, and the versions of its documents.
 #[derive(Drop)]
 pub struct Participant {
     pub(crate) alloc: Global,
@@ -44,7 +44,14 @@ impl Model for Participant {
 impl Participant {
     /// A part without sessions and documents; as many sessions as `limit` may come.
     pub fn new(alloc: Global, shard: u16, boot: u32, limit: u32) -> Participant
-        ensures { result ≡ record { shard = shard; boot = boot; sessions = record { limit = limit; entries = [] }; live = []; pending = []; store = [] } }
+        ensures { result ≡ record {
+          shard = shard;
+          boot = boot;
+          sessions = record { limit = limit; entries = [] };
+          live = [];
+          pending = [];
+          store = [];
+        } }
     {
         Participant {
             alloc,
@@ -57,9 +64,9 @@ impl Participant {
         }
     }
 
-    /// A part that starts again with what an image has. Its condition implies that no session is live, that the newest
-    /// of `pending` with the tag of a prepared session has the keys of its versions, and that no two sessions are
-    /// prepared with one tag.
+    /// A part that starts again with what an image has. Its condition implies that no session is
+    /// live, that the newest of `pending` with the tag of a prepared session has the keys of its
+    /// versions, and that no two sessions are prepared with one tag.
     pub fn of(
         alloc: Global,
         shard: u16,
@@ -68,8 +75,22 @@ impl Participant {
         sessions: Sessions,
         pending: Pendings,
     ) -> Participant
-        requires { Stands (record { shard = shard; boot = boot; sessions = sessions; live = []; pending = pending; store = store }) }
-        ensures { result ≡ record { shard = shard; boot = boot; sessions = sessions; live = []; pending = pending; store = store } }
+        requires { Stands (record {
+          shard = shard;
+          boot = boot;
+          sessions = sessions;
+          live = [];
+          pending = pending;
+          store = store;
+        }) }
+        ensures { result ≡ record {
+          shard = shard;
+          boot = boot;
+          sessions = sessions;
+          live = [];
+          pending = pending;
+          store = store;
+        } }
     {
         Participant {
             alloc,
@@ -111,7 +132,8 @@ impl Participant {
         self.boot
     }
 
-    /// What the session's live transaction has written so far, in its order; nothing, where none is live.
+    /// What the session's live transaction has written so far, in its order; nothing, where none is
+    /// live.
     pub fn writes_of<'a>(&'a self, lsid: &Lsid) -> &'a [Write]
         ensures { result.now ≡ own_of (open_of self.now lsid.now) }
     {

@@ -56,8 +56,8 @@ pub fn is_replaced(session: &Session, number: i64, tag: &Tag) -> bool
 }
 
 impl Participant {
-    /// How a shard votes on a commit that a coordinator asks for: a live transaction is prepared at its clock's next time,
-    /// with a record of what it wrote.
+    /// How a shard votes on a commit that a coordinator asks for: a live transaction is prepared at
+    /// its clock's next time, with a record of what it wrote.
     #[tactic(auto, unfolding(crate::specs::Prepare::prepare))]
     pub fn prepare(
         &mut self,
@@ -65,11 +65,18 @@ impl Participant {
         wall: u32,
         m: &Prepare,
     ) -> Result<Voted, PartErr>
-        requires clock { (clock.old.last ≡ last_time) ⊎ (next_time clock.old.last wall ≤ clock.old.ceiling) }
-        ensures voted { IfOk result (λ voted. prepare self.old clock.old.last wall m.now ≡ record { told = voted.vote; rec = voted.rec; last = clock.new.last; part = self.new }) }
+        requires clock { (clock.old.last ≡ last_time)
+            ⊎ (next_time clock.old.last wall ≤ clock.old.ceiling) }
+        ensures voted { IfOk result (λ voted. prepare self.old clock.old.last wall m.now ≡ record {
+          told = voted.vote;
+          rec = voted.rec;
+          last = clock.new.last;
+          part = self.new;
+        }) }
         ensures ceiling { clock.new.ceiling ≡ clock.old.ceiling }
         ensures err { OnErr result ((self.new ≡ self.old) × (clock.new ≡ clock.old)) }
-        ensures memory { OnErr result (may_tell_memory self.old m.now.lsid m.now.number m.now.tag ≡ true) }
+        ensures memory { OnErr result
+            (may_tell_memory self.old m.now.lsid m.now.number m.now.tag ≡ true) }
     {
         let Some(session) = self.session(&m.lsid) else {
             return Ok(self.prepare_none(m));
@@ -94,7 +101,10 @@ impl Participant {
 
     /// The vote on a transaction that isn't here.
     fn prepare_none(&self, m: &Prepare) -> Voted
-        ensures { result ≡ record { vote = Some (Err (cause.Unavailable m.now.boot self.now.boot)); rec = None } }
+        ensures { result ≡ record {
+          vote = Some (Err (cause.Unavailable m.now.boot self.now.boot));
+          rec = None;
+        } }
     {
         votes(Err(Cause::Unavailable {
             carried: m.boot,
@@ -109,9 +119,16 @@ impl Participant {
         wall: u32,
         m: &Prepare,
     ) -> Result<Voted, PartErr>
-        requires clock { (clock.old.last ≡ last_time) ⊎ (next_time clock.old.last wall ≤ clock.old.ceiling) }
+        requires clock { (clock.old.last ≡ last_time)
+            ⊎ (next_time clock.old.last wall ≤ clock.old.ceiling) }
         requires live { IsSomeAnd (session self.old m.now.lsid) (λ s. s.state ≡ state.Live) }
-        ensures voted { IfOk result (λ voted. (s : Session) → session self.old m.now.lsid ≡ Some s → prepares_live self.old clock.old.last wall m.now s ≡ record { told = voted.vote; rec = voted.rec; last = clock.new.last; part = self.new }) }
+        ensures voted { IfOk result (λ voted. (s : Session) → session self.old m.now.lsid ≡ Some s
+            → prepares_live self.old clock.old.last wall m.now s ≡ record {
+              told = voted.vote;
+              rec = voted.rec;
+              last = clock.new.last;
+              part = self.new;
+            }) }
         ensures ceiling { clock.new.ceiling ≡ clock.old.ceiling }
         ensures err { OnErr result ((self.new ≡ self.old) × (clock.new ≡ clock.old)) }
     {
@@ -132,7 +149,8 @@ impl Participant {
 
     /// What is to stand among the prepared transactions.
     fn pending_of(&self, lsid: &Lsid) -> Result<Option<Pending>, AllocError>
-        ensures { IfOk result (λ pending. pending ≡ option_map (pending_of lsid.now) (open_of self.now lsid.now)) }
+        ensures { IfOk result
+            (λ pending. pending ≡ option_map (pending_of lsid.now) (open_of self.now lsid.now)) }
     {
         match self.live.get(lsid) {
             Some(live) => Ok(Some(Pending {
@@ -153,10 +171,19 @@ impl Participant {
         m: &Prepare,
         pending: Pending,
     ) -> Result<Voted, PartErr>
-        requires clock { (clock.old.last ≡ last_time) ⊎ (next_time clock.old.last wall ≤ clock.old.ceiling) }
+        requires clock { (clock.old.last ≡ last_time)
+            ⊎ (next_time clock.old.last wall ≤ clock.old.ceiling) }
         requires live { IsSomeAnd (session self.old m.now.lsid) (λ s. s.state ≡ state.Live) }
-        requires pending { Some pending ≡ option_map (pending_of m.now.lsid) (open_of self.old m.now.lsid) }
-        ensures voted { IfOk result (λ voted. (s : Session) → session self.old m.now.lsid ≡ Some s → prepares_open self.old clock.old.last wall m.now s (open_of self.old m.now.lsid) ≡ record { told = voted.vote; rec = voted.rec; last = clock.new.last; part = self.new }) }
+        requires pending { Some pending
+            ≡ option_map (pending_of m.now.lsid) (open_of self.old m.now.lsid) }
+        ensures voted { IfOk result
+            (λ voted. (s : Session) → session self.old m.now.lsid ≡ Some s → prepares_open self.old
+            clock.old.last wall m.now s (open_of self.old m.now.lsid) ≡ record {
+              told = voted.vote;
+              rec = voted.rec;
+              last = clock.new.last;
+              part = self.new;
+            }) }
         ensures ceiling { clock.new.ceiling ≡ clock.old.ceiling }
         ensures err { OnErr result ((self.new ≡ self.old) × (clock.new ≡ clock.old)) }
     {
@@ -178,7 +205,9 @@ impl Participant {
     fn veto(&mut self, m: &Prepare, cause: Cause, again: Cause) -> Voted
         requires live { IsSomeAnd (session self.old m.now.lsid) (λ s. s.state ≡ state.Live) }
         requires again { again ≡ cause }
-        ensures { (last : ℕ) (s : Session) → session self.old m.now.lsid ≡ Some s → vetoes self.old last m.now s cause ≡ record { told = result.vote; rec = result.rec; last = last; part = self.new } }
+        ensures { (last : ℕ) (s : Session) → session self.old m.now.lsid ≡ Some s
+            → vetoes self.old last m.now s cause
+            ≡ record { told = result.vote; rec = result.rec; last = last; part = self.new } }
     {
         self.end_live(&m.lsid, cause);
         votes(Err(again))
@@ -187,9 +216,14 @@ impl Participant {
     /// The transaction is prepared at this time; the record of it.
     fn prepare_at(&mut self, m: &Prepare, at: Ts) -> Option<Rec>
         requires live { IsSomeAnd (session self.old m.now.lsid) (λ s. s.state ≡ state.Live) }
-        requires listed { (s : Session) → session self.old m.now.lsid ≡ Some s → pending_keys self.old s.tag ≡ keys_of s.tag self.old.store }
-        ensures rec { (s : Session) (o : Open) → session self.old m.now.lsid ≡ Some s → open_of self.old m.now.lsid ≡ Some o → result ≡ Some (rec.Prepared s.tag m.now.lsid s.number self.old.boot o.read_at at m.now.coordinator o.writes) }
-        ensures part { (s : Session) → session self.old m.now.lsid ≡ Some s → self.new ≡ ended (record self.old { store = prepared s.tag at self.old.store }) m.now.lsid s (state.Prepared at m.now.coordinator) }
+        requires listed { (s : Session) → session self.old m.now.lsid ≡ Some s
+            → pending_keys self.old s.tag ≡ keys_of s.tag self.old.store }
+        ensures rec { (s : Session) (o : Open) → session self.old m.now.lsid ≡ Some s
+            → open_of self.old m.now.lsid ≡ Some o → result ≡ Some (rec.Prepared s.tag m.now.lsid
+            s.number self.old.boot o.read_at at m.now.coordinator o.writes) }
+        ensures part { (s : Session) → session self.old m.now.lsid ≡ Some s
+            → self.new ≡ ended (record self.old { store = prepared s.tag at self.old.store })
+            m.now.lsid s (state.Prepared at m.now.coordinator) }
     {
         let _count = self.live.len();
         let number = self.number(&m.lsid);

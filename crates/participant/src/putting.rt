@@ -27,7 +27,8 @@ fn live_session(m: &Statement) -> Session
     }
 }
 
-/// Puts the writes of a session's first transaction, and the session; where there is no memory, nothing has changed.
+/// Puts the writes of a session's first transaction, and the session; where there is no memory,
+/// nothing has changed.
 fn put_new_session(
     sessions: &mut Sessions,
     store: &mut Store,
@@ -37,7 +38,8 @@ fn put_new_session(
     requires free { AreFree m.now.tag store.old writes.now }
     requires kept { AllHaveOwnIds writes.now }
     requires new { session_of sessions.old m.now.lsid ≡ None }
-    ensures sessions { OnOk result (sessions.new ≡ with_session sessions.old m.now.lsid (live_session m.now)) }
+    ensures sessions { OnOk result
+        (sessions.new ≡ with_session sessions.old m.now.lsid (live_session m.now)) }
     ensures store { OnOk result (store.new ≡ with_writes m.now.tag store.old writes.now) }
     ensures old_sessions { OnErr result (sessions.new ≡ sessions.old) }
     ensures old_store { OnErr result (store.new ≡ store.old) }
@@ -52,7 +54,8 @@ fn put_new_session(
     }
 }
 
-/// Puts the writes of the session's transaction, and the session; where there is no memory, nothing has changed.
+/// Puts the writes of the session's transaction, and the session; where there is no memory, nothing
+/// has changed.
 fn put_session(
     sessions: &mut Sessions,
     store: &mut Store,
@@ -61,7 +64,8 @@ fn put_session(
 ) -> Result<(), PartErr>
     requires free { AreFree m.now.tag store.old writes.now }
     requires kept { AllHaveOwnIds writes.now }
-    ensures sessions { OnOk result (sessions.new ≡ with_session sessions.old m.now.lsid (live_session m.now)) }
+    ensures sessions { OnOk result
+        (sessions.new ≡ with_session sessions.old m.now.lsid (live_session m.now)) }
     ensures store { OnOk result (store.new ≡ with_writes m.now.tag store.old writes.now) }
     ensures old_sessions { OnErr result (sessions.new ≡ sessions.old) }
     ensures old_store { OnErr result (store.new ≡ store.old) }
@@ -74,7 +78,8 @@ fn put_session(
     Ok(())
 }
 
-/// Puts all that a transaction has where the session has nothing live; where there is no memory, nothing has changed.
+/// Puts all that a transaction has where the session has nothing live; where there is no memory,
+/// nothing has changed.
 fn put_first(
     sessions: &mut Sessions,
     lives: &mut Lives,
@@ -86,7 +91,8 @@ fn put_first(
     requires free { AreFree m.now.tag store.old writes.now }
     requires kept { AllHaveOwnIds writes.now }
     requires none { entry_of m.now.lsid lives.old ≡ None }
-    ensures sessions { OnOk result (sessions.new ≡ with_session sessions.old m.now.lsid (live_session m.now)) }
+    ensures sessions { OnOk result
+        (sessions.new ≡ with_session sessions.old m.now.lsid (live_session m.now)) }
     ensures lives { OnOk result (lives.new ≡ put lsid_cmp m.now.lsid live lives.old) }
     ensures store { OnOk result (store.new ≡ with_writes m.now.tag store.old writes.now) }
     ensures old_sessions { OnErr result (sessions.new ≡ sessions.old) }
@@ -106,7 +112,8 @@ fn put_first(
 
 /// Drops the versions of an older live transaction of the session.
 fn drop_older(store: &mut Store, lives: &Lives, m: &Statement)
-    requires keys { (o : Open) → entry_of m.now.lsid lives.now ≡ Some o → same_tag o.tag m.now.tag ≡ false → map place_of o.writes ≡ keys_of o.tag store.old }
+    requires keys { (o : Open) → entry_of m.now.lsid lives.now ≡ Some o
+        → same_tag o.tag m.now.tag ≡ false → map place_of o.writes ≡ keys_of o.tag store.old }
     ensures { store.new ≡ without_older m.now.tag (entry_of m.now.lsid lives.now) store.old }
 {
     if let Some(older) = lives.get(&m.lsid) {
@@ -125,8 +132,8 @@ fn put_live(lives: &mut Lives, m: &Statement, live: Live)
     drop(done);
 }
 
-/// Puts all that a transaction has in place of what the session had live; an older transaction's versions are dropped.
-/// Where there is no memory, nothing has changed.
+/// Puts all that a transaction has in place of what the session had live; an older transaction's
+/// versions are dropped. Where there is no memory, nothing has changed.
 fn put_again(
     sessions: &mut Sessions,
     lives: &mut Lives,
@@ -139,10 +146,13 @@ fn put_again(
     requires kept { AllHaveOwnIds writes.now }
     requires there { IsSome (session_of sessions.old m.now.lsid) }
     requires some { IsSome (entry_of m.now.lsid lives.old) }
-    requires keys { (o : Open) → entry_of m.now.lsid lives.old ≡ Some o → map place_of o.writes ≡ keys_of o.tag store.old }
-    ensures sessions { OnOk result (sessions.new ≡ with_session sessions.old m.now.lsid (live_session m.now)) }
+    requires keys { (o : Open) → entry_of m.now.lsid lives.old ≡ Some o
+        → map place_of o.writes ≡ keys_of o.tag store.old }
+    ensures sessions { OnOk result
+        (sessions.new ≡ with_session sessions.old m.now.lsid (live_session m.now)) }
     ensures lives { OnOk result (lives.new ≡ put lsid_cmp m.now.lsid live lives.old) }
-    ensures store { OnOk result (store.new ≡ with_writes m.now.tag (without_older m.now.tag (entry_of m.now.lsid lives.old) store.old) writes.now) }
+    ensures store { OnOk result (store.new ≡ with_writes m.now.tag
+        (without_older m.now.tag (entry_of m.now.lsid lives.old) store.old) writes.now) }
     ensures old_sessions { OnErr result (sessions.new ≡ sessions.old) }
     ensures old_lives { OnErr result (lives.new ≡ lives.old) }
     ensures old_store { OnErr result (store.new ≡ store.old) }
@@ -155,8 +165,8 @@ fn put_again(
     Ok(())
 }
 
-/// Puts all that a transaction has: its writes, its entry and its session. What the session's older transaction had is
-/// dropped. Where there is no memory, nothing has changed.
+/// Puts all that a transaction has: its writes, its entry and its session. What the session's older
+/// transaction had is dropped. Where there is no memory, nothing has changed.
 pub fn put_all(
     sessions: &mut Sessions,
     lives: &mut Lives,
@@ -167,11 +177,15 @@ pub fn put_all(
 ) -> Result<(), PartErr>
     requires free { AreFree m.now.tag store.old writes.now }
     requires kept { AllHaveOwnIds writes.now }
-    requires there { IsSome (entry_of m.now.lsid lives.old) → IsSome (session_of sessions.old m.now.lsid) }
-    requires keys { (o : Open) → entry_of m.now.lsid lives.old ≡ Some o → map place_of o.writes ≡ keys_of o.tag store.old }
-    ensures sessions { OnOk result (sessions.new ≡ with_session sessions.old m.now.lsid (live_session m.now)) }
+    requires there { IsSome (entry_of m.now.lsid lives.old)
+        → IsSome (session_of sessions.old m.now.lsid) }
+    requires keys { (o : Open) → entry_of m.now.lsid lives.old ≡ Some o
+        → map place_of o.writes ≡ keys_of o.tag store.old }
+    ensures sessions { OnOk result
+        (sessions.new ≡ with_session sessions.old m.now.lsid (live_session m.now)) }
     ensures lives { OnOk result (lives.new ≡ put lsid_cmp m.now.lsid live lives.old) }
-    ensures store { OnOk result (store.new ≡ with_writes m.now.tag (without_older m.now.tag (entry_of m.now.lsid lives.old) store.old) writes.now) }
+    ensures store { OnOk result (store.new ≡ with_writes m.now.tag
+        (without_older m.now.tag (entry_of m.now.lsid lives.old) store.old) writes.now) }
     ensures old_sessions { OnErr result (sessions.new ≡ sessions.old) }
     ensures old_lives { OnErr result (lives.new ≡ lives.old) }
     ensures old_store { OnErr result (store.new ≡ store.old) }
@@ -184,7 +198,8 @@ pub fn put_all(
 
 /// Takes out what the session's live transaction has, and drops its versions. It takes no memory.
 pub fn drop_live(lives: &mut Lives, store: &mut Store, lsid: &Lsid)
-    requires keys { (o : Open) → entry_of lsid.now lives.old ≡ Some o → map place_of o.writes ≡ keys_of o.tag store.old }
+    requires keys { (o : Open) → entry_of lsid.now lives.old ≡ Some o
+        → map place_of o.writes ≡ keys_of o.tag store.old }
     ensures lives { lives.new ≡ taken_out lsid_cmp lsid.now lives.old }
     ensures store { store.new ≡ without_open (entry_of lsid.now lives.old) store.old }
 {

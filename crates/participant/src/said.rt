@@ -14,7 +14,8 @@ pub struct Open {
     pub read_at: Ts,
     /// The wall when it became live here.
     pub begun: u32,
-    /// The place of its newest statement here, and what that was answered: the reply, and whether it wrote.
+    /// The place of its newest statement here, and what that was answered: the reply, and whether
+    /// it wrote.
     pub k: u32,
     pub reply: OpReply,
     pub wrote: bool,

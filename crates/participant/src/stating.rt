@@ -100,7 +100,8 @@ fn is_here(m: &Statement, boot: u32) -> bool
 
 /// The session, where its transaction is the statement's and aborted.
 fn aborted_session(m: &Statement, cause: Cause, read_at: Ts) -> Session
-    ensures { result ≡ record { number = m.now.number; tag = m.now.tag; state = state.Aborted cause read_at } }
+    ensures { result
+        ≡ record { number = m.now.number; tag = m.now.tag; state = state.Aborted cause read_at } }
 {
     Session {
         number: m.number,
@@ -110,7 +111,8 @@ fn aborted_session(m: &Statement, cause: Cause, read_at: Ts) -> Session
 }
 
 impl Participant {
-    /// Answers a statement of a transaction; its writes stand here until the transaction ends. The clock stays.
+    /// Answers a statement of a transaction; its writes stand here until the transaction ends. The
+    /// clock stays.
     #[tactic(auto, unfolding(crate::specs::Statement::statement))]
     pub fn statement(
         &mut self,
@@ -118,13 +120,16 @@ impl Participant {
         wall: u32,
         m: &Statement,
     ) -> Result<Said, PartErr>
-        requires clock { (clock.old.last ≡ last_time) ⊎ (next_time clock.old.last wall ≤ clock.old.ceiling) }
+        requires clock { (clock.old.last ≡ last_time)
+            ⊎ (next_time clock.old.last wall ≤ clock.old.ceiling) }
         requires time { m.now.read_at ≤ clock.old.last }
         requires once { elsewhere self.old m.now.lsid m.now.tag ≡ false }
-        ensures said { IfOk result (λ said. statement self.old clock.old.last wall m.now ≡ (said, self.new)) }
+        ensures said { IfOk result
+            (λ said. statement self.old clock.old.last wall m.now ≡ (said, self.new)) }
         ensures clock { clock.new ≡ clock.old }
         ensures err { OnErr result (self.new ≡ self.old) }
-        ensures memory { OnErr result (may_tell_memory self.old m.now.lsid m.now.number m.now.tag ≡ true) }
+        ensures memory { OnErr result
+            (may_tell_memory self.old m.now.lsid m.now.number m.now.tag ≡ true) }
     {
         let last = clock.last;
         let Some(session) = self.session(&m.lsid) else {
@@ -154,8 +159,10 @@ impl Participant {
     /// A statement with a tag that is new to the session.
     fn first_statement(&mut self, last: Ts, wall: u32, m: &Statement) -> Result<Said, PartErr>
         requires once { elsewhere self.old m.now.lsid m.now.tag ≡ false }
-        requires other { IfSome (session self.old m.now.lsid) (λ s. same_tag s.tag m.now.tag ≡ false) }
-        ensures said { IfOk result (λ said. first_statement self.old last wall m.now (session self.old m.now.lsid) ≡ (said, self.new)) }
+        requires other { IfSome (session self.old m.now.lsid)
+            (λ s. same_tag s.tag m.now.tag ≡ false) }
+        ensures said { IfOk result (λ said. first_statement self.old last wall m.now
+            (session self.old m.now.lsid) ≡ (said, self.new)) }
         ensures err { OnErr result (self.new ≡ self.old) }
     {
         if is_here(m, 0) {
@@ -170,8 +177,10 @@ impl Participant {
     /// A statement with a tag that is new to the session, and without a boot.
     fn beside(&mut self, last: Ts, wall: u32, m: &Statement) -> Result<Said, PartErr>
         requires once { elsewhere self.old m.now.lsid m.now.tag ≡ false }
-        requires other { IfSome (session self.old m.now.lsid) (λ s. same_tag s.tag m.now.tag ≡ false) }
-        ensures said { IfOk result (λ said. beside self.old last wall m.now (session self.old m.now.lsid) ≡ (said, self.new)) }
+        requires other { IfSome (session self.old m.now.lsid)
+            (λ s. same_tag s.tag m.now.tag ≡ false) }
+        ensures said { IfOk result (λ said. beside self.old last wall m.now
+            (session self.old m.now.lsid) ≡ (said, self.new)) }
         ensures err { OnErr result (self.new ≡ self.old) }
     {
         let Some(session) = self.session(&m.lsid) else {
@@ -194,7 +203,8 @@ impl Participant {
     /// The first statement of a transaction.
     fn begin(&mut self, last: Ts, wall: u32, m: &Statement) -> Result<Said, PartErr>
         requires once { elsewhere self.old m.now.lsid m.now.tag ≡ false }
-        requires other { IfSome (session self.old m.now.lsid) (λ s. same_tag s.tag m.now.tag ≡ false) }
+        requires other { IfSome (session self.old m.now.lsid)
+            (λ s. same_tag s.tag m.now.tag ≡ false) }
         requires left { CanLeave (session self.old m.now.lsid) }
         ensures said { IfOk result (λ said. begins self.old last wall m.now ≡ (said, self.new)) }
         ensures err { OnErr result (self.new ≡ self.old) }
@@ -208,7 +218,8 @@ impl Participant {
         requires once { elsewhere self.old m.now.lsid m.now.tag ≡ false }
         requires live { IsSomeAnd (session self.old m.now.lsid) (λ s. s.state ≡ state.Live) }
         requires own { IfSome (session self.old m.now.lsid) (λ s. same_tag s.tag m.now.tag ≡ true) }
-        ensures said { IfOk result (λ said. (s : Session) → session self.old m.now.lsid ≡ Some s → goes_on self.old wall m.now s (open_of self.old m.now.lsid) ≡ (said, self.new)) }
+        ensures said { IfOk result (λ said. (s : Session) → session self.old m.now.lsid ≡ Some s
+            → goes_on self.old wall m.now s (open_of self.old m.now.lsid) ≡ (said, self.new)) }
         ensures err { OnErr result (self.new ≡ self.old) }
     {
         let Some(live) = self.live.get(&m.lsid) else {
@@ -235,7 +246,8 @@ impl Participant {
         requires live { IsSomeAnd (session self.old m.now.lsid) (λ s. s.state ≡ state.Live) }
         requires own { IfSome (session self.old m.now.lsid) (λ s. same_tag s.tag m.now.tag ≡ true) }
         requires next { IsSomeAnd (open_of self.old m.now.lsid) (IsNext m.now read_at) }
-        ensures said { IfOk result (λ said. (s : Session) → session self.old m.now.lsid ≡ Some s → goes_on self.old wall m.now s (open_of self.old m.now.lsid) ≡ (said, self.new)) }
+        ensures said { IfOk result (λ said. (s : Session) → session self.old m.now.lsid ≡ Some s
+            → goes_on self.old wall m.now s (open_of self.old m.now.lsid) ≡ (said, self.new)) }
         ensures err { OnErr result (self.new ≡ self.old) }
     {
         let _count = self.live.len();
@@ -265,8 +277,10 @@ impl Participant {
 
     /// What the transaction sees of what the operation touches.
     fn rows(&self, m: &Statement, read_at: Ts) -> Result<Vec<(Id, Doc)>, ScanErr>
-        ensures rows { IfOk result (λ rows. scan self.now.store (ns_of m.now.op) (touched m.now.op) read_at m.now.tag ≡ Ok rows.items) }
-        ensures held { IfErr result (λ e. IsHeld (scan self.now.store (ns_of m.now.op) (touched m.now.op) read_at m.now.tag) e) }
+        ensures rows { IfOk result (λ rows. scan self.now.store (ns_of m.now.op) (touched m.now.op)
+            read_at m.now.tag ≡ Ok rows.items) }
+        ensures held { IfErr result (λ e.
+            IsHeld (scan self.now.store (ns_of m.now.op) (touched m.now.op) read_at m.now.tag) e) }
     {
         match touched(self.alloc, &m.op)? {
             Some(ids) => self
@@ -289,7 +303,8 @@ impl Participant {
 
     /// What comes of the operation over these rows.
     fn meant_over(&self, m: &Statement, read_at: Ts, rows: &[(Id, Doc)]) -> Result<Meant, PartErr>
-        requires { scan self.now.store (ns_of m.now.op) (touched m.now.op) read_at m.now.tag ≡ Ok rows.now }
+        requires { scan self.now.store (ns_of m.now.op) (touched m.now.op) read_at m.now.tag
+            ≡ Ok rows.now }
         ensures { IfOk result (λ x. x ≡ meant self.now m.now read_at) }
     {
         let _read_at = read_at;
@@ -305,7 +320,8 @@ impl Participant {
     fn perform(&mut self, wall: u32, m: &Statement, read_at: Ts) -> Result<Said, PartErr>
         requires once { elsewhere self.old m.now.lsid m.now.tag ≡ false }
         requires left { CanLeave (session self.old m.now.lsid) }
-        ensures said { IfOk result (λ said. performed self.old wall m.now read_at (mine self.old m.now) ≡ (said, self.new)) }
+        ensures said { IfOk result (λ said. performed self.old wall m.now read_at
+            (mine self.old m.now) ≡ (said, self.new)) }
         ensures err { OnErr result (self.new ≡ self.old) }
     {
         let meant = self.meant(m, read_at)?;
@@ -340,7 +356,8 @@ impl Participant {
         read_at: Ts,
         write: &Write,
     ) -> Result<Option<(Id, By)>, AllocError>
-        ensures { IfOk result (λ c. c ≡ option_map (λ why. ((place_of write.now).1, why)) (against read_at m.now.tag (versions_of self.now.store (place_of write.now)))) }
+        ensures { IfOk result (λ c. c ≡ option_map (λ why. ((place_of write.now).1, why))
+            (against read_at m.now.tag (versions_of self.now.store (place_of write.now)))) }
     {
         let (ns, id) = match write {
             Write::Put { ns, id, .. } => (ns, id),
@@ -363,7 +380,8 @@ impl Participant {
     ) -> Result<Said, PartErr>
         requires once { elsewhere self.old m.now.lsid m.now.tag ≡ false }
         requires left { CanLeave (session self.old m.now.lsid) }
-        ensures said { IfOk result (λ said. writing self.old wall m.now read_at (mine self.old m.now) reply writes ≡ (said, self.new)) }
+        ensures said { IfOk result (λ said. writing self.old wall m.now read_at
+            (mine self.old m.now) reply writes ≡ (said, self.new)) }
         ensures err { OnErr result (self.new ≡ self.old) }
     {
         match self.conflict(m, read_at, writes.as_slice())? {
@@ -401,7 +419,8 @@ impl Participant {
         reply: OpReply,
         writes: &Writes,
     ) -> Result<Open, AllocError>
-        ensures { IfOk result (λ o. o ≡ opened wall m.now read_at (mine self.now m.now) reply writes.now) }
+        ensures { IfOk result
+            (λ o. o ≡ opened wall m.now read_at (mine self.now m.now) reply writes.now) }
     {
         Ok(Open {
             tag: m.tag,
@@ -426,7 +445,8 @@ impl Participant {
         requires once { elsewhere self.old m.now.lsid m.now.tag ≡ false }
         requires left { CanLeave (session self.old m.now.lsid) }
         requires free { conflict self.old.store read_at m.now.tag writes ≡ None }
-        ensures said { IfOk result (λ said. within_volume self.old wall m.now read_at (mine self.old m.now) reply writes ≡ (said, self.new)) }
+        ensures said { IfOk result (λ said. within_volume self.old wall m.now read_at
+            (mine self.old m.now) reply writes ≡ (said, self.new)) }
         ensures err { OnErr result (self.new ≡ self.old) }
     {
         let entry = self.opened(wall, m, read_at, reply.copy(self.alloc)?, &writes)?;
@@ -450,7 +470,8 @@ impl Participant {
         requires kept { AllHaveOwnIds writes.now }
         requires tag { entry.tag ≡ m.now.tag }
         requires whole { entry.writes ≡ writes_with (mine self.old m.now) writes.now }
-        ensures ok { OnOk result (self.new ≡ with_open (made_room self.old m.now (mine self.old m.now)) m.now entry writes.now) }
+        ensures ok { OnOk result (self.new
+            ≡ with_open (made_room self.old m.now (mine self.old m.now)) m.now entry writes.now) }
         ensures err { OnErr result (self.new ≡ self.old) }
     {
         let _count = self.live.len();
@@ -472,7 +493,8 @@ impl Participant {
     fn refuse(&mut self, m: &Statement, cause: Cause, read_at: Ts) -> Result<Said, PartErr>
         requires once { elsewhere self.old m.now.lsid m.now.tag ≡ false }
         requires left { CanLeave (session self.old m.now.lsid) }
-        ensures said { IfOk result (λ said. refuses self.old m.now cause read_at ≡ (said, self.new)) }
+        ensures said { IfOk result
+            (λ said. refuses self.old m.now cause read_at ≡ (said, self.new)) }
         ensures err { OnErr result (self.new ≡ self.old) }
     {
         let again = cause.copy(self.alloc)?;

@@ -57,7 +57,8 @@ fn ids_among(alloc: Global, values: &[Value]) -> Result<Vec<Id>, AllocError>
 
 /// The id that is the value, where the field is `_id`; all, where it isn't.
 fn one_id(alloc: Global, name: &str, value: &Value) -> Result<Option<Vec<Id>>, AllocError>
-    ensures { IfOk result (λ ids. option_map (λ v. v.items) ids ≡ (if bytes_eq name.now id_name then Some (ids_among (value.now ∷ [])) else None)) }
+    ensures { IfOk result (λ ids. option_map (λ v. v.items) ids
+        ≡ (if bytes_eq name.now id_name then Some (ids_among (value.now ∷ [])) else None)) }
 {
     if name != "_id" {
         return Ok(None);
@@ -70,7 +71,8 @@ fn one_id(alloc: Global, name: &str, value: &Value) -> Result<Option<Vec<Id>>, A
 
 /// The ids among the values, where the field is `_id`; all, where it isn't.
 fn some_ids(alloc: Global, name: &str, values: &[Value]) -> Result<Option<Vec<Id>>, AllocError>
-    ensures { IfOk result (λ ids. option_map (λ v. v.items) ids ≡ (if bytes_eq name.now id_name then Some (ids_among values.now) else None)) }
+    ensures { IfOk result (λ ids. option_map (λ v. v.items) ids
+        ≡ (if bytes_eq name.now id_name then Some (ids_among values.now) else None)) }
 {
     if name != "_id" {
         return Ok(None);
@@ -102,7 +104,8 @@ fn id_test(alloc: Global, filter: &Filter) -> Result<Option<Vec<Id>>, AllocError
 /// The id test of the first of the filters that has one.
 #[cycle(id_test)]
 fn first_test(alloc: Global, filters: &[Filter]) -> Result<Option<Vec<Id>>, AllocError>
-    ensures { IfOk result (λ ids. option_map (λ v. v.items) ids ≡ first_some (map id_test filters.now)) }
+    ensures { IfOk result
+        (λ ids. option_map (λ v. v.items) ids ≡ first_some (map id_test filters.now)) }
 {
     for filter in filters {
         if let Some(ids) = id_test(alloc, filter)? {
@@ -128,7 +131,8 @@ fn inserted(alloc: Global, items: &[InsertItem]) -> Result<Vec<Id>, AllocError>
 /// The ids of the tests of all items; all, where an item has none.
 #[tactic(auto, using(crate::proofs::Tests::joined_more))]
 fn updated(alloc: Global, items: &[UpdateItem]) -> Result<Option<Vec<Id>>, AllocError>
-    ensures { IfOk result (λ ids. option_map (λ v. v.items) ids ≡ joined_tests (map (λ (item : UpdateItem). id_test item.filter) items.now)) }
+    ensures { IfOk result (λ ids. option_map (λ v. v.items) ids
+        ≡ joined_tests (map (λ (item : UpdateItem). id_test item.filter) items.now)) }
 {
     let mut all = Vec::new(alloc);
     for item in items {
@@ -143,7 +147,8 @@ fn updated(alloc: Global, items: &[UpdateItem]) -> Result<Option<Vec<Id>>, Alloc
 /// The ids of the tests of all items; all, where an item has none.
 #[tactic(auto, using(crate::proofs::Tests::joined_more))]
 fn deleted(alloc: Global, items: &[DeleteItem]) -> Result<Option<Vec<Id>>, AllocError>
-    ensures { IfOk result (λ ids. option_map (λ v. v.items) ids ≡ joined_tests (map (λ (item : DeleteItem). id_test item.filter) items.now)) }
+    ensures { IfOk result (λ ids. option_map (λ v. v.items) ids
+        ≡ joined_tests (map (λ (item : DeleteItem). id_test item.filter) items.now)) }
 {
     let mut all = Vec::new(alloc);
     for item in items {

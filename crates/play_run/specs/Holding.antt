@@ -19,4 +19,5 @@ held_on connections c = held_in (get nat_eq connections.feeders c)
 
 -- no message of a client has more than 48,000,000 bytes
 abbrev pub AreLimited : Connections → Type 0
-AreLimited connections = (c : ℕ) → IfSome (get nat_eq connections.feeders c) (λ stream. stream.limit ≡ most_message)
+AreLimited connections = (c : ℕ)
+    → IfSome (get nat_eq connections.feeders c) (λ stream. stream.limit ≡ most_message)

@@ -1,5 +1,7 @@
--- What a schedule's lines do: the bytes that come on a connection are cut into messages, and each is served in its turn.
-use Rattle.std.specs.Prelude.{ℕ, zero, suc, Bool, true, false, List, [], ◌∷◌, ◌++◌, length, Some, None, Ok, Err, nat_eq, if◌then◌else◌}
+-- What a schedule's lines do: the bytes that come on a connection are cut into messages, and each
+-- is served in its turn.
+use Rattle.std.specs.Prelude.{ℕ, zero, suc, Bool, true, false, List, [], ◌∷◌, ◌++◌, length, Some}
+use Rattle.std.specs.Prelude.{None, Ok, Err, nat_eq, if◌then◌else◌}
 use Rattle.op_msg.specs.Limits.{most_message}
 use Rattle.op_msg.specs.Stream.{Next, next_of}
 use Rattle.op_msg.specs.declared.frame.FrameErr.{FrameErr}
@@ -24,8 +26,8 @@ number_of (fault.Bson error) = 7
 number_of fault.TooLarge = 8
 number_of fault.Memory = 9
 
--- what a turn on a connection did: what is written, the server behind it, the bytes that are held still, and whether
--- another turn may do something
+-- what a turn on a connection did: what is written, the server behind it, the bytes that are held
+-- still, and whether another turn may do something
 pub record Turn : Type 0 where
   pub text : List ℕ
   pub server : State
@@ -34,15 +36,19 @@ pub record Turn : Type 0 where
 
 -- a message was answered; where its connection was closed, the bytes behind it are dropped
 abbrev pub answered : ℕ → State → List ℕ → Answer → Turn
-answered connection s rest (Reply bytes) = record { text = reply_line connection bytes; server = s; held = rest; more = true }
+answered connection s rest (Reply bytes) =
+    record { text = reply_line connection bytes; server = s; held = rest; more = true }
 answered connection s rest Silent = record { text = []; server = s; held = rest; more = true }
-answered connection s rest (Closed number) = record { text = closed_line connection number; server = s; held = []; more = false }
+answered connection s rest (Closed number) =
+    record { text = closed_line connection number; server = s; held = []; more = false }
 
 -- by what comes next on the connection: bytes that can't begin a message close it
 abbrev pub turn_by : ℕ → State → List ℕ → Next → Turn
-turn_by connection s held (Ok (Some message)) = answered connection (behind s message.0) message.1 (answer_of connection s message.0)
+turn_by connection s held (Ok (Some message)) =
+    answered connection (behind s message.0) message.1 (answer_of connection s message.0)
 turn_by connection s held (Ok None) = record { text = []; server = s; held = held; more = false }
-turn_by connection s held (Err e) = record { text = closed_line connection (number_of e); server = s; held = []; more = false }
+turn_by connection s held (Err e) =
+    record { text = closed_line connection (number_of e); server = s; held = []; more = false }
 
 -- a message of a client has at most 48,000,000 bytes
 unfoldable pub turn : ℕ → State → List ℕ → Turn
@@ -77,7 +83,10 @@ line_turns d a = all_turns a.connection d.server (d.held a.connection ++ a.bytes
 
 -- behind a line
 abbrev pub served : DeskState → Asked → DeskState
-served d a = record { server = (line_turns d a).server; held = λ c. if nat_eq a.connection c then (line_turns d a).held else d.held c }
+served d a = record {
+  server = (line_turns d a).server;
+  held = λ c. if nat_eq a.connection c then (line_turns d a).held else d.held c;
+}
 
 -- behind lines, one after the other
 abbrev pub served_all : DeskState → List Asked → DeskState

@@ -14,11 +14,13 @@ use Rattle.txn_semantics.specs.declared.commits.Entry.{Entry}
 
 -- the line of a reply
 unfoldable pub reply_line : ℕ → List ℕ → List ℕ
-reply_line connection bytes = codes "reply " ++ decimal connection ++ 32 ∷ encode_lower bytes ++ 10 ∷ []
+reply_line connection bytes =
+    codes "reply " ++ decimal connection ++ 32 ∷ encode_lower bytes ++ 10 ∷ []
 
 -- the line of a connection that is closed, for the reason of that number
 unfoldable pub closed_line : ℕ → ℕ → List ℕ
-closed_line connection number = codes "closed " ++ decimal connection ++ 32 ∷ decimal number ++ 10 ∷ []
+closed_line connection number =
+    codes "closed " ++ decimal connection ++ 32 ∷ decimal number ++ 10 ∷ []
 
 -- seconds, a full stop and an increment
 unfoldable pub time_text : ℕ → List ℕ
@@ -29,7 +31,8 @@ unfoldable pub tag_text : Tag → List ℕ
 tag_text tag = decimal tag.router ++ 46 ∷ decimal tag.boot ++ 46 ∷ decimal tag.serial
 
 unfoldable pub commit_line : Entry → List ℕ
-commit_line e = codes "commit " ++ time_text e.at ++ codes " tag " ++ tag_text e.tag ++ codes " read " ++ time_text e.read_at ++ 10 ∷ []
+commit_line e = codes "commit " ++ time_text e.at ++ codes " tag " ++ tag_text e.tag
+    ++ codes " read " ++ time_text e.read_at ++ 10 ∷ []
 
 -- a write of a document, at shard 0
 unfoldable pub put_line : List ℕ → Document → List ℕ
@@ -50,7 +53,8 @@ id_document id = (codes "_id", value_of_id id) ∷ []
 
 -- a document that was deleted, at shard 0
 unfoldable pub delete_line : List ℕ → Id → List ℕ
-delete_line ns id = codes "delete 0 " ++ ns ++ 32 ∷ encode_lower (spelling (id_document id)) ++ 10 ∷ []
+delete_line ns id =
+    codes "delete 0 " ++ ns ++ 32 ∷ encode_lower (spelling (id_document id)) ++ 10 ∷ []
 
 abbrev pub write_line : Write → List ℕ
 write_line (Put ns id doc) = put_line ns doc

@@ -13,8 +13,10 @@ abbrev pub closing_number : FrameErr → Option ℕ
 closing_number fault.Memory = None
 closing_number error = Some (number_of error)
 
--- the turn's text was written behind what was there, and the server and the feeder stand where it ends
-pub record Turned (t : Turn) (server : Server) (feeder : Stream) (before after : List ℕ) (goes_on : Bool) : Type 0 where
+-- the turn's text was written behind what was there, and the server and the feeder stand where it
+-- ends
+pub record Turned (t : Turn) (server : Server) (feeder : Stream) (before after : List ℕ)
+    (goes_on : Bool) : Type 0 where
   pub text : after ≡ before ++ t.text
   pub state : StandsAt server t.server
   pub held : feeder.held ≡ t.held

@@ -9,7 +9,8 @@ use std::alloc::{AllocError, Global};
 /// A client's message has no more bytes.
 pub const MOST_MESSAGE: u32 = 48_000_000;
 
-/// The connections of clients by their numbers, each with the bytes that came on it and are no whole message yet.
+/// The connections of clients by their numbers, each with the bytes that came on it and are no
+/// whole message yet.
 #[derive(Drop)]
 pub struct Connections {
     pub feeders: IndexMap<u32, Feeder>,
@@ -38,8 +39,10 @@ impl Connections {
     /// Takes a connection's feeder out, and leaves an empty one.
     pub fn take(&mut self, alloc: Global, connection: u32) -> Result<Feeder, AllocError>
         requires { AreLimited self.old }
-        ensures feeder { IfOk result (λ f. f ≡ record { held = held_on self.old connection; limit = most_message }) }
-        ensures others { OnOk result ((c : ℕ) → held_on self.new c ≡ (if nat_eq connection c then [] else held_on self.old c)) }
+        ensures feeder { IfOk result
+            (λ f. f ≡ record { held = held_on self.old connection; limit = most_message }) }
+        ensures others { OnOk result ((c : ℕ)
+            → held_on self.new c ≡ (if nat_eq connection c then [] else held_on self.old c)) }
         ensures limited { OnOk result (AreLimited self.new) }
     {
         match self.feeders.insert(connection, fresh(alloc))? {
@@ -52,7 +55,8 @@ impl Connections {
     pub fn put(&mut self, connection: u32, feeder: Feeder) -> Result<(), AllocError>
         requires limited { AreLimited self.old }
         requires limit { feeder.limit ≡ most_message }
-        ensures held { OnOk result ((c : ℕ) → held_on self.new c ≡ (if nat_eq connection c then feeder.held else held_on self.old c)) }
+        ensures held { OnOk result ((c : ℕ) → held_on self.new c
+            ≡ (if nat_eq connection c then feeder.held else held_on self.old c)) }
         ensures limited { OnOk result (AreLimited self.new) }
     {
         self.feeders.insert(connection, feeder)?;

@@ -56,7 +56,9 @@ fn serve_message(
 ) -> Result<bool, AllocError>
     requires sound { IsSound server.old }
     requires limit { feeder.old.limit ≡ most_message }
-    ensures turn { IfOk result (λ more. Turned (answered connection (behind (state_of server.old) message.now) feeder.old.held (answer_of connection (state_of server.old) message.now)) server.new feeder.new out.old.items out.new.items more) }
+    ensures turn { IfOk result (λ more. Turned (answered connection (behind (state_of server.old)
+        message.now) feeder.old.held (answer_of connection (state_of server.old) message.now))
+        server.new feeder.new out.old.items out.new.items more) }
     ensures sound { OnOk result (IsSound server.new) }
 {
     match server.answer(alloc, connection, message)? {
@@ -83,7 +85,8 @@ fn serve_next(
 ) -> Result<bool, AllocError>
     requires sound { IsSound server.old }
     requires limit { feeder.old.limit ≡ most_message }
-    ensures turn { IfOk result (λ more. Turned (turn connection (state_of server.old) feeder.old.held) server.new feeder.new out.old.items out.new.items more) }
+    ensures turn { IfOk result (λ more. Turned (turn connection (state_of server.old)
+        feeder.old.held) server.new feeder.new out.old.items out.new.items more) }
     ensures sound { OnOk result (IsSound server.new) }
 {
     match feeder.next() {
@@ -131,8 +134,10 @@ impl Desk {
         bytes: &[u8],
     ) -> Result<Vec<u8>, AllocError>
         requires { IsReady self.old }
-        ensures text { IfOk result (λ t. t.items ≡ answer (desk_of self.old) (record { connection = connection; bytes = bytes.now })) }
-        ensures state { OnOk result (DeskStandsAt self.new (served (desk_of self.old) (record { connection = connection; bytes = bytes.now }))) }
+        ensures text { IfOk result (λ t. t.items
+            ≡ answer (desk_of self.old) (record { connection = connection; bytes = bytes.now })) }
+        ensures state { OnOk result (DeskStandsAt self.new
+            (served (desk_of self.old) (record { connection = connection; bytes = bytes.now }))) }
         ensures ready { OnOk result (IsReady self.new) }
     {
         let mut feeder = self.connections.take(alloc, connection)?;
@@ -154,7 +159,8 @@ fn serve_held(
 ) -> Result<Vec<u8>, AllocError>
     requires sound { IsSound server.old }
     requires limit { feeder.old.limit ≡ most_message }
-    ensures served { IfOk result (λ t. Served (all_turns connection (state_of server.old) feeder.old.held) server.new feeder.new t.items) }
+    ensures served { IfOk result (λ t. Served (all_turns connection (state_of server.old)
+        feeder.old.held) server.new feeder.new t.items) }
     ensures sound { OnOk result (IsSound server.new) }
 {
     let mut text = Vec::new(alloc);

@@ -1,5 +1,5 @@
-//! What a schedule's lines do, one after the other: the bytes on each connection, the messages that they are, and the lines
-//! that are written.
+//! What a schedule's lines do, one after the other: the bytes on each connection, the messages that
+//! they are, and the lines that are written.
 #![tactic(auto)]
 
 mod connections;

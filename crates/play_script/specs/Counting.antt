@@ -10,8 +10,8 @@ use Rattle.play_script.specs.declared.input.LineCount.{LineCount}
 abbrev pub AreShort : List ℕ → Type 0
 AreShort text = All (λ line. length line ≤ most_line) (lines_of text)
 
--- the bytes are whole lines and one that has not ended, neither more nor longer than a schedule has them, and the
--- count tells how many, where they end, and how long the last is so far
+-- the bytes are whole lines and one that has not ended, neither more nor longer than a schedule has
+-- them, and the count tells how many, where they end, and how long the last is so far
 pub record Counted (bytes : List ℕ) (count : LineCount) : Type 0 where
   pub front : List ℕ
   pub last : List ℕ

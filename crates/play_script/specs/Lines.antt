@@ -1,5 +1,7 @@
 -- Lines of a schedule, and what they ask: the grammar of docs/formats/SCHEDULES.md.
-use Rattle.std.specs.Prelude.{◌≡◌, ◌≤◌, ℕ, ◌+◌, ◌-◌, ◌*◌, ◌==◌, ◌&&◌, ◌||◌, Bool, not, true, false, List, [], ◌∷◌, length, fold, nat_le, Option, Some, None, Result, Ok, Err, codes, if◌then◌else◌}
+use Rattle.std.specs.Prelude.{◌≡◌, ◌≤◌, ℕ, ◌+◌, ◌-◌, ◌*◌, ◌==◌, ◌&&◌, ◌||◌, Bool, not, true, false}
+use Rattle.std.specs.Prelude.{List, [], ◌∷◌, length, fold, nat_le, Option, Some, None, Result, Ok}
+use Rattle.std.specs.Prelude.{Err, codes, if◌then◌else◌}
 use Rattle.std.specs.List.{list_all, slice_split}
 use Rattle.std.specs.Str.{bytes_eq}
 use Rattle.play_script.specs.Limits.{most_line}
@@ -91,9 +93,11 @@ abbrev pub with_number : ℕ → Result (List ℕ) LineErr → Result (ℕ × Li
 with_number n (Ok bytes) = mapped (λ conn. (conn, bytes)) (number_by 4294967295 n)
 with_number n (Err why) = Err why
 
--- a connection and the bytes that come on it; it is asked whether its number is one, then for the bytes, then how large the number is
+-- a connection and the bytes that come on it; it is asked whether its number is one, then for the
+-- bytes, then how large the number is
 abbrev pub asked_in : List ℕ → List ℕ → Result (ℕ × List ℕ) LineErr
-asked_in conn digits = if is_decimal conn then with_number (value_of conn) (bytes_in digits) else Err Form
+asked_in conn digits = if is_decimal conn then with_number (value_of conn) (bytes_in digits)
+    else Err Form
 
 -- What the words ask.
 
@@ -107,17 +111,23 @@ one_word word =
 abbrev pub two_words : List ℕ → List ℕ → Result Line LineErr
 two_words word digits =
     if bytes_eq word (codes "gone") then mapped (λ n. line.Gone n) (number_in 4294967295 digits)
-    else if bytes_eq word (codes "deliver") then mapped (λ n. line.Deliver n) (number_in 18446744073709551615 digits)
-    else if bytes_eq word (codes "lose") then mapped (λ n. line.Lose n) (number_in 18446744073709551615 digits)
-    else if bytes_eq word (codes "wall") then mapped (λ n. line.Wall n) (number_in 4294967295 digits)
+    else if bytes_eq word (codes "deliver")
+    then mapped (λ n. line.Deliver n) (number_in 18446744073709551615 digits)
+    else if bytes_eq word (codes "lose")
+    then mapped (λ n. line.Lose n) (number_in 18446744073709551615 digits)
+    else if bytes_eq word (codes "wall")
+    then mapped (λ n. line.Wall n) (number_in 4294967295 digits)
     else Err Form
 
 abbrev pub three_words : List ℕ → List ℕ → List ℕ → Result Line LineErr
 three_words word first second =
     if bytes_eq word (codes "ask") then mapped (λ a. line.Ask a.0 a.1) (asked_in first second)
-    else if bytes_eq word (codes "client") then mapped (λ a. line.Client a.0 a.1) (asked_in first second)
-    else if bytes_eq word (codes "restart") then mapped (λ node. line.Restart node) (node_in first second)
-    else if bytes_eq word (codes "resend") then mapped (λ node. line.Resend node) (node_in first second)
+    else if bytes_eq word (codes "client")
+    then mapped (λ a. line.Client a.0 a.1) (asked_in first second)
+    else if bytes_eq word (codes "restart")
+    then mapped (λ node. line.Restart node) (node_in first second)
+    else if bytes_eq word (codes "resend")
+    then mapped (λ node. line.Resend node) (node_in first second)
     else Err Form
 
 abbrev pub words_ask : List (List ℕ) → Result Line LineErr
@@ -128,7 +138,8 @@ words_ask other = Err Form
 
 -- what a line asks, or why it is refused; one of more than 100,000,000 bytes has no form
 unfoldable pub read_of : List ℕ → Result Line LineErr
-read_of bytes = if nat_le (length bytes) most_line then words_ask (slice_split (λ b. b == 32) bytes) else Err Form
+read_of bytes = if nat_le (length bytes) most_line then words_ask (slice_split (λ b. b == 32) bytes)
+    else Err Form
 
 abbrev pub asked_by : Result Line LineErr → Option Line
 asked_by (Ok asked) = Some asked

@@ -27,15 +27,16 @@ pub enum End {
     ManyLines,
 }
 
-/// What was read of a schedule: all of it, or the whole lines in front of where it can't be served further.
+/// What was read of a schedule: all of it, or the whole lines in front of where it can't be served
+/// further.
 #[derive(Drop)]
 pub struct Input {
     pub bytes: Vec<u8>,
     pub end: End,
 }
 
-/// Where a reading of lines stands: how many have ended, the place behind the last of them, and how long the next is
-/// so far.
+/// Where a reading of lines stands: how many have ended, the place behind the last of them, and how
+/// long the next is so far.
 #[derive(Drop)]
 struct LineCount {
     ended: u64,
@@ -48,7 +49,9 @@ impl LineCount {
     fn end_in(&mut self, bytes: &[u8], from: usize) -> Option<End>
         requires within { from ≤ length bytes.now }
         requires counted { Counted (take from bytes.now) self.old }
-        ensures { MatchOption result (Counted bytes.now self.new) (λ end. IsInput bytes.now (take self.new.whole bytes.now) end × (end ≢ End.Whole) × AreShort (take self.new.whole bytes.now)) }
+        ensures { MatchOption result (Counted bytes.now self.new)
+            (λ end. IsInput bytes.now (take self.new.whole bytes.now) end × (end ≢ End.Whole)
+            × AreShort (take self.new.whole bytes.now)) }
     {
         for place in from..bytes.len() {
             if self.ended >= MOST_LINES {
@@ -68,12 +71,16 @@ impl LineCount {
     }
 }
 
-/// Reads the source to its end, or as far as a schedule can be served: to a byte of line 10,000,001, or to byte
+/// Reads the source to its end, or as far as a schedule can be served: to a byte of line
+/// 10,000,001, or to byte
 /// 100,000,001 of a line. It goes through the bytes once.
 pub fn read_input<S: Source>(alloc: Global, src: &mut S) -> Result<Input, SourceErr>
-    ensures faults { FailsOnly SourceErr.Failed (S.fault_count src.old) (S.fault_count src.new) result }
-    ensures read { IfOk result (λ i. WhereKnown (S.left src.old) (λ input. IsInput input i.bytes.items i.end)) }
-    ensures at_end { IfOk result (λ i. WhereKnown (S.left src.old) (λ input. IsAtEnd (S.left src.new) i.end)) }
+    ensures faults { FailsOnly SourceErr.Failed (S.fault_count src.old)
+        (S.fault_count src.new) result }
+    ensures read { IfOk result
+        (λ i. WhereKnown (S.left src.old) (λ input. IsInput input i.bytes.items i.end)) }
+    ensures at_end { IfOk result
+        (λ i. WhereKnown (S.left src.old) (λ input. IsAtEnd (S.left src.new) i.end)) }
     ensures few { IfOk result (λ i. length (lines_of i.bytes.items) ≤ most_lines) }
     ensures short { IfOk result (λ i. AreShort i.bytes.items) }
 {

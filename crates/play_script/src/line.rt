@@ -74,7 +74,8 @@ fn place_of(bytes: &[u8], byte: u8) -> Option<usize>
 
 /// The bytes before the first of this byte, and those behind it.
 fn split_at_first(bytes: &[u8], byte: u8) -> Option<(&[u8], &[u8])>
-    ensures { MatchOption result (Lacks byte bytes.now) (λ x. (bytes.now ≡ x.0.now ++ byte ∷ x.1.now) × Lacks byte x.0.now) }
+    ensures { MatchOption result (Lacks byte bytes.now)
+        (λ x. (bytes.now ≡ x.0.now ++ byte ∷ x.1.now) × Lacks byte x.0.now) }
 {
     let at = place_of(bytes, byte)?;
     Some((&bytes[..at], &bytes[at + 1..]))
@@ -146,7 +147,8 @@ fn is_decimal(digits: &[u8]) -> bool
 /// The number with one more digit, where it fits.
 fn with_digit(number: u64, digit: u8) -> Option<u64>
     requires { is_digit digit ≡ true }
-    ensures { result ≡ (if nat_lt (with_digit number digit) (2 ^ 64) then Some (with_digit number digit) else None) }
+    ensures { result ≡ (if nat_lt (with_digit number digit) (2 ^ 64)
+        then Some (with_digit number digit) else None) }
 {
     number.checked_mul(10)?.checked_add(u64::from(digit - b'0'))
 }
@@ -155,7 +157,8 @@ fn with_digit(number: u64, digit: u8) -> Option<u64>
 #[tactic(auto, using(crate::proofs::Digits::too_large))]
 fn value_of(digits: &[u8]) -> Option<u64>
     requires { list_all is_digit digits.now ≡ true }
-    ensures { result ≡ (if nat_lt (value_of digits.now) (2 ^ 64) then Some (value_of digits.now) else None) }
+    ensures { result
+        ≡ (if nat_lt (value_of digits.now) (2 ^ 64) then Some (value_of digits.now) else None) }
 {
     let mut number = 0;
     for digit in digits {
@@ -326,10 +329,11 @@ pub struct Ask {
     pub bytes: Bytes,
 }
 
-/// Reads what a line asks that is played so far. It is refused, with `Form` or what stands in its way, exactly where it
-/// asks nothing that is, unless memory runs out.
+/// Reads what a line asks that is played so far. It is refused, with `Form` or what stands in its
+/// way, exactly where it asks nothing that is, unless memory runs out.
 pub fn read_ask(alloc: Global, line: &[u8]) -> Result<Ask, LineErr>
-    ensures ok { IfOk result (λ a. Asks line.now (record { connection = a.connection; bytes = a.bytes })) }
+    ensures ok { IfOk result
+        (λ a. Asks line.now (record { connection = a.connection; bytes = a.bytes })) }
     ensures bad { (e : _) → result ≡ Err e → (e ≡ Memory → ⊥) → IsBad line.now }
 {
     let asked = read_line(alloc, line)?;

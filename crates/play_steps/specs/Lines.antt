@@ -1,5 +1,6 @@
 -- What a line of a schedule does, and what comes next of a schedule.
-use Rattle.std.specs.Prelude.{ℕ, ◌+◌, Bool, true, false, not, List, [], ◌∷◌, ◌++◌, map, filter, nat_eq, nat_lt, nat_le, Option, Some, None, if◌then◌else◌}
+use Rattle.std.specs.Prelude.{ℕ, ◌+◌, Bool, true, false, not, List, [], ◌∷◌, ◌++◌, map, filter}
+use Rattle.std.specs.Prelude.{nat_eq, nat_lt, nat_le, Option, Some, None, if◌then◌else◌}
 use Rattle.std.specs.List.{range_with_len}
 use Rattle.play_script.specs.Limits.{most_lines}
 use Rattle.txn_types.specs.declared.event.Happening.TheVariants as what
@@ -22,7 +23,8 @@ is_there p (Router n) = nat_lt n p.routers
 abbrev pub was_sent : Player → ℕ → Bool
 was_sent p number = nat_lt number p.sent
 
--- what a line does: what is written of it, and the player then; none where it names what isn't there
+-- what a line does: what is written of it, and the player then; none where it names what isn't
+-- there
 abbrev pub Did : Type 0
 Did = Option (List ℕ × Player)
 
@@ -44,12 +46,14 @@ abbrev pub settles : Player → Player
 settles p = record p { round = Some (record { left = []; progress = true; count = 0 }) }
 
 abbrev pub moments : Player → List Want
-moments p = map (λ n. Event (Shard n) what.Moment) (range_with_len 0 p.shards) ++ map (λ n. Event (Router n) what.Moment) (range_with_len 0 p.routers)
+moments p = map (λ n. Event (Shard n) what.Moment) (range_with_len 0 p.shards)
+    ++ map (λ n. Event (Router n) what.Moment) (range_with_len 0 p.routers)
 
 -- a router that starts anew has no connection
 abbrev pub without_connections : Player → NodeId → Player
 without_connections p (Shard n) = p
-without_connections p (Router n) = record p { connections = filter (λ c. not (nat_eq (router_of p c.conn) n)) p.connections }
+without_connections p (Router n) =
+    record p { connections = filter (λ c. not (nat_eq (router_of p c.conn) n)) p.connections }
 
 abbrev pub lost : Player → ℕ → Player
 lost p number = record p { pending = filter (λ n. not (nat_eq n number)) p.pending }
@@ -57,12 +61,16 @@ lost p number = record p { pending = filter (λ n. not (nat_eq n number)) p.pend
 abbrev pub done_by : List ℕ → Player → Line → Did
 done_by dump p (line.Ask conn bytes) = does (asks p conn bytes)
 done_by dump p (line.Client conn bytes) = does (settles (asks p conn bytes))
-done_by dump p (line.Gone conn) = does (queued (shut p conn) (Event (Router (router_of p conn)) (what.Gone conn) ∷ []))
-done_by dump p (line.Deliver number) = does_where (was_sent p number) (queued p (Deliver number ∷ []))
+done_by dump p (line.Gone conn) =
+    does (queued (shut p conn) (Event (Router (router_of p conn)) (what.Gone conn) ∷ []))
+done_by dump p (line.Deliver number) =
+    does_where (was_sent p number) (queued p (Deliver number ∷ []))
 done_by dump p (line.Lose number) = does_where (was_sent p number) (lost p number)
 done_by dump p line.Settle = does (settles p)
-done_by dump p (line.Restart node) = does_where (is_there p node) (queued (without_connections p node) (Renew node ∷ []))
-done_by dump p (line.Resend node) = does_where (is_there p node) (queued p (Event node what.Resend ∷ []))
+done_by dump p (line.Restart node) =
+    does_where (is_there p node) (queued (without_connections p node) (Renew node ∷ []))
+done_by dump p (line.Resend node) =
+    does_where (is_there p node) (queued p (Event node what.Resend ∷ []))
 done_by dump p (line.Wall secs) = does (queued (record p { wall = secs }) (moments p))
 done_by dump p line.Dump = Some (dump, p)
 done_by dump p line.Log = does (record p { logs = true })
@@ -90,12 +98,14 @@ abbrev pub did_next : Player → Did → (Player → Next) → Next
 did_next p None lines = ([], Bad p.taken, p)
 did_next p (Some did) lines = written did.0 (or_lines (ready did.1) lines)
 
--- At the end of the schedule the list of commits is written. No more than 10,000,000 lines are taken.
+-- At the end of the schedule the list of commits is written. No more than 10,000,000 lines are
+-- taken.
 abbrev pub from_lines : List ℕ → List (List ℕ) → Player → Next
 from_lines dump [] p = (dump, End, record p { lines = [] })
 from_lines dump (l ∷ lines) p =
     if nat_le most_lines p.taken then ([], Spent, p)
-    else did_next (at_line p lines) (done_if dump (at_line p lines) (line_of l)) (from_lines dump lines)
+    else did_next (at_line p lines) (done_if dump (at_line p lines) (line_of l))
+    (from_lines dump lines)
 
 unfoldable pub next : List ℕ → Player → Next
 next dump p = or_lines (ready p) (λ q. from_lines dump q.lines q)

@@ -15,7 +15,8 @@ use Rattle.play_steps.specs.Player.{Player, shut}
 use Rattle.play_script.specs.declared.line.Line.{Line}
 use Rattle.play_script.specs.declared.line.Line.TheVariants as line
 use Rattle.play_steps.specs.Lines.{Did, was_sent, is_there}
-use Rattle.play_steps.specs.Taking.{sent_lines, where_logs, all_answered, unless_wanted, with_sent, serving_behind, done_message}
+use Rattle.play_steps.specs.Taking.{sent_lines, where_logs, all_answered, unless_wanted, with_sent}
+use Rattle.play_steps.specs.Taking.{serving_behind, done_message}
 
 -- a line was done or named what isn't there; what is written by then, and the player
 abbrev pub behind_line : List ℕ → Player → Did → Bool × List ℕ × Player
@@ -46,13 +47,15 @@ closing_text (Client conn wanted) (Some number) = closed_line conn number
 closing_text given closed = []
 
 abbrev pub holding_text : Bool → Given → NodeAnswer → List ℕ
-holding_text logs (Message number) (answer.Blocked id tag ts) = where_logs logs (held_line number tag ts)
+holding_text logs (Message number) (answer.Blocked id tag ts) =
+    where_logs logs (held_line number tag ts)
 holding_text logs given a = []
 
 -- what is written of the answer
 abbrev pub answer_text : Player → Given → NodeAnswer → List ℕ
 answer_text p given (answer.Did out replies closed) =
-    where_logs p.logs (sent_lines p.sent out) ++ flat_map (λ r. reply_line r.0 r.1) replies ++ closing_text given closed
+    where_logs p.logs (sent_lines p.sent out) ++ flat_map (λ r. reply_line r.0 r.1) replies
+    ++ closing_text given closed
 answer_text p given other = holding_text p.logs given other
 
 abbrev pub heard_of : Player → Given → Option ℕ → Player
@@ -61,7 +64,8 @@ heard_of p (Client conn wanted) (Some number) = shut p conn
 heard_of p given closed = p
 
 abbrev pub behind_did : Player → Given → List Envelope → List (ℕ × List ℕ) → Option ℕ → Player
-behind_did p given out replies closed = serving_behind (heard_of (all_answered (with_sent p out) replies) given closed) replies
+behind_did p given out replies closed =
+    serving_behind (heard_of (all_answered (with_sent p out) replies) given closed) replies
 
 abbrev pub message_done : Player → Given → Player
 message_done p (Message number) = done_message p number
@@ -69,6 +73,7 @@ message_done p given = p
 
 -- the player behind the answer
 abbrev pub behind_answer : Player → Given → NodeAnswer → Player
-behind_answer p given (answer.Did out replies closed) = message_done (behind_did p given out replies closed) given
+behind_answer p given (answer.Did out replies closed) =
+    message_done (behind_did p given out replies closed) given
 behind_answer p given (answer.Blocked id tag ts) = p
 behind_answer p given other = message_done p given

@@ -1,5 +1,6 @@
 -- What is written of a step and what follows from it, part by part.
-use Rattle.std.specs.Prelude.{ℕ, ◌+◌, Bool, true, false, List, [], ◌∷◌, ◌++◌, map, length, Option, Some, None, if◌then◌else◌}
+use Rattle.std.specs.Prelude.{ℕ, ◌+◌, Bool, true, false, List, [], ◌∷◌, ◌++◌, map, length, Option}
+use Rattle.std.specs.Prelude.{Some, None, if◌then◌else◌}
 use Rattle.std.specs.List.{range_with_len}
 use Rattle.txn_types.specs.declared.message.Envelope.{Envelope}
 use Rattle.play_text.specs.Text.{sent_line}
@@ -24,13 +25,15 @@ abbrev pub all_answered : Player → List (ℕ × List ℕ) → Player
 all_answered p [] = p
 all_answered p (r ∷ rs) = all_answered (answered p r.0) rs
 
--- a message whose sender wants no reply isn't waited for either; one that closes drops what its connection holds
+-- a message whose sender wants no reply isn't waited for either; one that closes drops what its
+-- connection holds
 abbrev pub unless_wanted : Player → ℕ → Bool → Player
 unless_wanted p conn true = p
 unless_wanted p conn false = answered p conn
 
 abbrev pub with_sent : Player → List Envelope → Player
-with_sent p out = record p { sent = p.sent + length out; pending = p.pending ++ range_with_len p.sent (length out) }
+with_sent p out = record p
+    { sent = p.sent + length out; pending = p.pending ++ range_with_len p.sent (length out) }
 
 -- what waits on the connections that were replied to comes next
 abbrev pub serving_behind : Player → List (ℕ × List ℕ) → Player

@@ -1,4 +1,5 @@
-//! A schedule being played: what its lines ask, what comes next, and what is written of what nodes answer.
+//! A schedule being played: what its lines ask, what comes next, and what is written of what nodes
+//! answer.
 #![tactic(auto)]
 
 mod player;

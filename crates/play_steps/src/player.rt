@@ -1,5 +1,5 @@
-//! What comes next of a schedule: first the messages that wait on connections, then what a line has asked for, then the
-//! round of a settling, and then the next line.
+//! What comes next of a schedule: first the messages that wait on connections, then what a line has
+//! asked for, then the round of a settling, and then the next line.
 ghost use Rattle.std.specs.Prelude.{◌≡◌, ℕ, List, ◌++◌, filter, not, nat_eq, IfOk, OnOk};
 ghost use Rattle.play_script.specs.Lines.{line_of};
 
@@ -27,8 +27,8 @@ pub trait CommitList {
         ensures { OnOk result (out.new.items ≡ out.old.items ++ text self.now) };
 }
 
-/// A settling: the messages of the round that are left, whether a message became done in it, and how many were delivered in
-/// all.
+/// A settling: the messages of the round that are left, whether a message became done in it, and
+/// how many were delivered in all.
 #[derive(Drop)]
 pub(crate) struct Round {
     left: VecDeque<u64>,
@@ -156,7 +156,8 @@ impl<'a> Player<'a> {
     /// A connection closes, for the reason of that number.
     fn close(&mut self, conn: u32, number: u8, out: &mut Vec<u8>) -> Result<(), AllocError>
         ensures text { OnOk result (out.new.items ≡ out.old.items ++ closed_line conn number) }
-        ensures closed { OnOk result (self.new ≡ record (shut self.old conn) { serving = drop 1 self.old.serving }) }
+        ensures closed { OnOk result
+            (self.new ≡ record (shut self.old conn) { serving = drop 1 self.old.serving }) }
     {
         put_closed(self.alloc, out, conn, number)?;
         self.shut(conn)?;
@@ -167,8 +168,12 @@ impl<'a> Player<'a> {
     /// A message of a connection is given to its router.
     #[tactic(auto, using(crate::proofs::Serving::dropped_none))]
     fn give(&mut self, conn: u32) -> Result<Option<Want>, AllocError>
-        ensures given { IfOk result (λ w. MatchOption w ((connection self.old conn).waiting ≡ []) (λ x. (m : List ℕ) × ((connection self.old conn).waiting ≡ m ∷ drop 1 (connection self.old conn).waiting) × (x ≡ Event (Router (router_of self.old conn)) (what.Client conn m)))) }
-        ensures rest { OnOk result (self.new ≡ with_conn self.old (taken_from (connection self.old conn))) }
+        ensures given { IfOk result
+            (λ w. MatchOption w ((connection self.old conn).waiting ≡ []) (λ x. (m : List ℕ)
+            × ((connection self.old conn).waiting ≡ m ∷ drop 1 (connection self.old conn).waiting)
+            × (x ≡ Event (Router (router_of self.old conn)) (what.Client conn m)))) }
+        ensures rest { OnOk result
+            (self.new ≡ with_conn self.old (taken_from (connection self.old conn))) }
     {
         match self.connections.give(conn)? {
             Some(frame) => Ok(Some(Want::Event {
@@ -179,9 +184,12 @@ impl<'a> Player<'a> {
         }
     }
 
-    /// What is served on the connections that are to be served: each until a message of it is unanswered.
+    /// What is served on the connections that are to be served: each until a message of it is
+    /// unanswered.
     fn serve_all(&mut self, out: &mut Vec<u8>) -> Result<Option<Want>, AllocError>
-        ensures { IfOk result (λ w. MatchOption w ((self.new.serving ≡ []) × (behind_text out.old.items (ready self.old) ≡ behind_text out.new.items (ready self.new))) (λ x. behind_text out.old.items (ready self.old) ≡ (out.new.items, Some x, self.new))) }
+        ensures { IfOk result (λ w. MatchOption w ((self.new.serving ≡ []) × (behind_text
+            out.old.items (ready self.old) ≡ behind_text out.new.items (ready self.new)))
+            (λ x. behind_text out.old.items (ready self.old) ≡ (out.new.items, Some x, self.new))) }
     {
         while let Some(conn) = self.first_served() {
             match self.connections.turn(conn) {
@@ -198,7 +206,8 @@ impl<'a> Player<'a> {
 
     /// The first connection that is to be served.
     fn first_served(&self) -> Option<u32>
-        ensures { MatchOption result (self.now.serving ≡ []) (λ conn. self.now.serving ≡ conn ∷ drop 1 self.now.serving) }
+        ensures { MatchOption result (self.now.serving ≡ [])
+            (λ conn. self.now.serving ≡ conn ∷ drop 1 self.now.serving) }
     {
         self.serving.front().copied()
     }
@@ -236,7 +245,8 @@ impl<'a> Player<'a> {
         Ok(VecDeque::from_vec(Vec::from_slice(self.alloc, &self.pending)?))
     }
 
-    /// The delivery of a round's first message, behind so many in all; without one the settling ends.
+    /// The delivery of a round's first message, behind so many in all; without one the settling
+    /// ends.
     fn deliver(&mut self, count: u64, progress: bool, left: VecDeque<u64>) -> Option<Want>
         ensures { delivers self.old count progress left.items ≡ ([], result, self.new) }
     {
@@ -299,7 +309,8 @@ impl<'a> Player<'a> {
 
     /// What is ready without a line.
     fn ready(&mut self, out: &mut Vec<u8>) -> Result<Option<Want>, AllocError>
-        ensures { IfOk result (λ w. behind_text out.old.items (ready self.old) ≡ (out.new.items, w, self.new)) }
+        ensures { IfOk result
+            (λ w. behind_text out.old.items (ready self.old) ≡ (out.new.items, w, self.new)) }
     {
         match self.serve_all(out)? {
             Some(want) => Ok(Some(want)),
@@ -336,7 +347,8 @@ impl<'a> Player<'a> {
 
     /// The wall stands at this second.
     fn set_wall(&mut self, secs: u32) -> Result<(), AllocError>
-        ensures { OnOk result (self.new ≡ queued (record self.old { wall = secs }) (moments self.old)) }
+        ensures { OnOk result
+            (self.new ≡ queued (record self.old { wall = secs }) (moments self.old)) }
     {
         self.wall = secs;
         self.moments()
@@ -365,7 +377,8 @@ impl<'a> Player<'a> {
 
     /// A connection ends.
     fn gone(&mut self, conn: u32) -> Result<(), AllocError>
-        ensures { OnOk result (self.new ≡ queued (shut self.old conn) (Event (Router (router_of self.old conn)) (what.Gone conn) ∷ [])) }
+        ensures { OnOk result (self.new ≡ queued (shut self.old conn)
+            (Event (Router (router_of self.old conn)) (what.Gone conn) ∷ [])) }
     {
         self.shut(conn)?;
         let node = self.router_of(conn);
@@ -401,7 +414,8 @@ impl<'a> Player<'a> {
 
     /// A node is to start anew; a router's connections are dropped.
     fn restart(&mut self, node: NodeId) -> Result<(), AllocError>
-        ensures { OnOk result (self.new ≡ queued (without_connections self.old node) (Renew node ∷ [])) }
+        ensures { OnOk result
+            (self.new ≡ queued (without_connections self.old node) (Renew node ∷ [])) }
     {
         self.drop_connections(node);
         self.enqueue(Want::Renew { node })
@@ -434,7 +448,8 @@ impl<'a> Player<'a> {
         out: &mut Vec<u8>,
     ) -> Result<(), AllocError>
         requires { names_there self.old line ≡ true }
-        ensures { OnOk result (behind_line out.old.items self.old (done_by (L.text commits.now) self.old line) ≡ (true, out.new.items, self.new)) }
+        ensures { OnOk result (behind_line out.old.items self.old
+            (done_by (L.text commits.now) self.old line) ≡ (true, out.new.items, self.new)) }
     {
         match line {
             Line::Ask { conn, bytes } => self.ask(conn, bytes.as_slice())?,
@@ -455,14 +470,20 @@ impl<'a> Player<'a> {
         Ok(())
     }
 
-    /// What the next line brings, if it ends the playing. At the end of the schedule the list of commits is written.
+    /// What the next line brings, if it ends the playing. At the end of the schedule the list of
+    /// commits is written.
     fn line_next<L: CommitList>(
         &mut self,
         commits: &L,
         out: &mut Vec<u8>,
     ) -> Result<Option<Want>, AllocError>
-        ensures next { IfOk result (λ w. MatchOption w (written out.old.items (from_lines (L.text commits.now) self.old.lines self.old) ≡ written out.new.items (next (L.text commits.now) self.new)) (λ x. written out.old.items (from_lines (L.text commits.now) self.old.lines self.old) ≡ (out.new.items, x, self.new))) }
-        ensures fewer { IfOk result (λ w. IfNone w (length self.new.lines < length self.old.lines)) }
+        ensures next { IfOk result (λ w. MatchOption w
+            (written out.old.items (from_lines (L.text commits.now) self.old.lines self.old)
+            ≡ written out.new.items (next (L.text commits.now) self.new))
+            (λ x. written out.old.items (from_lines (L.text commits.now) self.old.lines self.old)
+            ≡ (out.new.items, x, self.new))) }
+        ensures fewer { IfOk result
+            (λ w. IfNone w (length self.new.lines < length self.old.lines)) }
     {
         if self.lines.is_empty() {
             commits.put(self.alloc, out)?;
@@ -490,7 +511,8 @@ impl<'a> Player<'a> {
         commits: &L,
         out: &mut Vec<u8>,
     ) -> Result<Want, AllocError>
-        ensures { IfOk result (λ w. written out.old.items (next (L.text commits.now) self.old) ≡ (out.new.items, w, self.new)) }
+        ensures { IfOk result (λ w. written out.old.items (next (L.text commits.now) self.old)
+            ≡ (out.new.items, w, self.new)) }
     {
         loop {
             if let Some(want) = self.ready(out)? {

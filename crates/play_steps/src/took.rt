@@ -17,8 +17,10 @@ impl<'a> Player<'a> {
 
     /// Numbers a message that a step gave out; with `log` a line is written of it.
     fn took_one(&mut self, envelope: &Envelope, out: &mut Vec<u8>) -> Result<(), AllocError>
-        ensures text { OnOk result (out.new.items ≡ out.old.items ++ where_logs self.old.logs (sent_line self.old.sent envelope.now)) }
-        ensures player { OnOk result (self.new ≡ record self.old { sent = self.old.sent + 1; pending = self.old.pending ++ self.old.sent ∷ [] }) }
+        ensures text { OnOk result (out.new.items
+            ≡ out.old.items ++ where_logs self.old.logs (sent_line self.old.sent envelope.now)) }
+        ensures player { OnOk result (self.new ≡ record self.old
+            { sent = self.old.sent + 1; pending = self.old.pending ++ self.old.sent ∷ [] }) }
     {
         if self.logs {
             put_sent(self.alloc, out, self.sent, envelope)?;
@@ -33,7 +35,8 @@ impl<'a> Player<'a> {
 
     /// Numbers the messages that a step gave out; with `log` a line is written of each.
     fn took_sent(&mut self, sent: &[Envelope], out: &mut Vec<u8>) -> Result<(), AllocError>
-        ensures text { OnOk result (out.new.items ≡ out.old.items ++ where_logs self.old.logs (sent_lines self.old.sent sent.now)) }
+        ensures text { OnOk result (out.new.items
+            ≡ out.old.items ++ where_logs self.old.logs (sent_lines self.old.sent sent.now)) }
         ensures player { OnOk result (self.new ≡ with_sent self.old sent.now) }
     {
         for envelope in sent {
@@ -55,7 +58,8 @@ impl<'a> Player<'a> {
         replies: &[(u32, Bytes)],
         out: &mut Vec<u8>,
     ) -> Result<(), AllocError>
-        ensures text { OnOk result (out.new.items ≡ out.old.items ++ flat_map (λ r. reply_line r.0 r.1) replies.now) }
+        ensures text { OnOk result
+            (out.new.items ≡ out.old.items ++ flat_map (λ r. reply_line r.0 r.1) replies.now) }
         ensures player { OnOk result (self.new ≡ all_answered self.old replies.now) }
     {
         for (conn, bytes) in replies {
@@ -65,7 +69,8 @@ impl<'a> Player<'a> {
         Ok(())
     }
 
-    /// What was given was taken: a client's message may have closed its connection, or want no reply.
+    /// What was given was taken: a client's message may have closed its connection, or want no
+    /// reply.
     fn heard(
         &mut self,
         given: Given,
@@ -125,8 +130,11 @@ impl<'a> Player<'a> {
         closed: Option<u8>,
         out: &mut Vec<u8>,
     ) -> Result<(), AllocError>
-        ensures text { OnOk result (out.new.items ≡ out.old.items ++ (where_logs self.old.logs (sent_lines self.old.sent sent.now) ++ flat_map (λ r. reply_line r.0 r.1) replies.now ++ closing_text given closed)) }
-        ensures player { OnOk result (self.new ≡ behind_did self.old given sent.now replies.now closed) }
+        ensures text { OnOk result (out.new.items
+            ≡ out.old.items ++ (where_logs self.old.logs (sent_lines self.old.sent sent.now)
+            ++ flat_map (λ r. reply_line r.0 r.1) replies.now ++ closing_text given closed)) }
+        ensures player { OnOk result
+            (self.new ≡ behind_did self.old given sent.now replies.now closed) }
     {
         self.took_sent(sent, out)?;
         self.took_replies(replies, out)?;
@@ -141,7 +149,8 @@ impl<'a> Player<'a> {
         answer: &NodeAnswer,
         out: &mut Vec<u8>,
     ) -> Result<(), AllocError>
-        ensures text { OnOk result (out.new.items ≡ out.old.items ++ answer_text self.old given answer.now) }
+        ensures text { OnOk result
+            (out.new.items ≡ out.old.items ++ answer_text self.old given answer.now) }
         ensures player { OnOk result (self.new ≡ behind_answer self.old given answer.now) }
     {
         match answer {

@@ -22,8 +22,8 @@ pub enum Want {
     Spent,
 }
 
-/// What was given to a node, as far as it matters behind the step: the connection, where it was a client's message, and
-/// whether its sender wants a reply; or the number of a message.
+/// What was given to a node, as far as it matters behind the step: the connection, where it was a
+/// client's message, and whether its sender wants a reply; or the number of a message.
 #[derive(Clone, Copy)]
 pub enum Given {
     Client { conn: u32, wants_reply: bool },

@@ -26,10 +26,12 @@ doc_line word shard ns doc = line word (decimal shard ∷ ns ∷ encode_lower (s
 abbrev pub share : (Place → ℕ) → List Write → ℕ → List Write
 share place writes shard = filter (λ write. nat_eq (place (place_of write)) shard) writes
 
--- one above the greatest shard that keeps a document of these writes, or this number where that is above
+-- one above the greatest shard that keeps a document of these writes, or this number where that is
+-- above
 abbrev pub past_from : (Place → ℕ) → ℕ → List Write → ℕ
 past_from place past [] = past
-past_from place past (write ∷ writes) = past_from place (max past (place (place_of write) + 1)) writes
+past_from place past (write ∷ writes) =
+    past_from place (max past (place (place_of write) + 1)) writes
 
 -- lines on writes
 abbrev pub lines_of : (Place → ℕ) → List Write → List ℕ

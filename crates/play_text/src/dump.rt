@@ -70,7 +70,8 @@ fn put_line(
     ns: &Ns,
     doc: &Doc,
 ) -> Result<(), AllocError>
-    ensures { OnOk result (out.new.items ≡ out.old.items ++ doc_line word.now shard ns.now doc.now) }
+    ensures { OnOk result
+        (out.new.items ≡ out.old.items ++ doc_line word.now shard ns.now doc.now) }
 {
     let digits = digits_of(alloc, doc)?;
     let text = format!(in alloc; "{word} {shard} ")?;
@@ -112,7 +113,8 @@ fn put_share(
     shard: u32,
     writes: &[Write],
 ) -> Result<(), AllocError>
-    ensures { OnOk result (out.new.items ≡ out.old.items ++ lines_of (kept_by map.now) (share (kept_by map.now) writes.now shard)) }
+    ensures { OnOk result (out.new.items
+        ≡ out.old.items ++ lines_of (kept_by map.now) (share (kept_by map.now) writes.now shard)) }
 {
     for write in writes {
         let kept = shard_of(map, write);
@@ -141,7 +143,8 @@ fn put_writes(
     map: &ChunkMap,
     writes: &[Write],
 ) -> Result<(), AllocError>
-    ensures { OnOk result (out.new.items ≡ out.old.items ++ lines_of (kept_by map.now) (by_shard (kept_by map.now) writes.now)) }
+    ensures { OnOk result (out.new.items
+        ≡ out.old.items ++ lines_of (kept_by map.now) (by_shard (kept_by map.now) writes.now)) }
 {
     for shard in 0..past_of(map, writes) {
         put_share(alloc, out, map, shard, writes)?;
@@ -156,7 +159,8 @@ pub fn put_dump(
     map: &ChunkMap,
     entries: &[Entry],
 ) -> Result<(), AllocError>
-    ensures { OnOk result (out.new.items ≡ out.old.items ++ dump_text (kept_by map.now) entries.now) }
+    ensures { OnOk result
+        (out.new.items ≡ out.old.items ++ dump_text (kept_by map.now) entries.now) }
 {
     let count = entries.len();
     let text = format!(in alloc; "dump {count}\n")?;

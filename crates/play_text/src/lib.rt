@@ -1,4 +1,5 @@
-//! The lines that are written of what a cluster does: replies, closings, messages, what is held, boots, and the list of commits.
+//! The lines that are written of what a cluster does: replies, closings, messages, what is held,
+//! boots, and the list of commits.
 #![tactic(auto)]
 
 mod dump;

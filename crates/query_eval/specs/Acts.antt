@@ -1,5 +1,6 @@
 -- What an item does to rows as they are held, and what the calls that do it give.
-use Rattle.std.specs.Prelude.{◌≡◌, ℕ, Bool, true, false, List, [], ◌∷◌, map, length, Option, Some, None, Result, Ok, Err, if◌then◌else◌}
+use Rattle.std.specs.Prelude.{◌≡◌, ℕ, Bool, true, false, List, [], ◌∷◌, map, length, Option, Some}
+use Rattle.std.specs.Prelude.{None, Result, Ok, Err, if◌then◌else◌}
 use Rattle.bson_core.specs.Fields.{Document}
 use Rattle.txn_types.specs.declared.filter.Filter.{Filter}
 use Rattle.txn_types.specs.declared.id.Id.{Id}
@@ -39,7 +40,8 @@ Makes row (Err e) doing = Refuses e doing
 
 -- the document of a row that the filter wants
 abbrev pub wanted_in : Filter → Held → Option Document
-wanted_in filter held = elim (doc_in held) [ None ↦ None | Some doc ↦ if matches filter doc then Some doc else None ]
+wanted_in filter held =
+    elim (doc_in held) [ None ↦ None | Some doc ↦ if matches filter doc then Some doc else None ]
 
 -- the row with its new document, where it has one
 abbrev pub with_change : Id × Held → Option Document → Id × Held
@@ -71,13 +73,17 @@ Changes item old new (Err e) = Refused item old e
 
 -- a row that the filter wants is taken away
 abbrev pub Drops : Filter → Id × Held → Id × Held → Bool → Type 0
-Drops filter old new true = (doc : Document) × (wanted_in filter old.1 ≡ Some doc) × (new ≡ (old.0, Nothing))
+Drops filter old new true = (doc : Document) × (wanted_in filter old.1 ≡ Some doc)
+    × (new ≡ (old.0, Nothing))
 Drops filter old new false = (wanted_in filter old.1 ≡ None) × (new ≡ old)
 
--- What was done to rows: each row that was changed has its content, and the others are as they were.
-pub record Follows (content : Document → Option Document) (left : List Row → List Row → List Row) (before : List (Id × Held)) (done : Done) (after : List (Id × Held)) : Type 0 where
+-- What was done to rows: each row that was changed has its content, and the others are as they
+-- were.
+pub record Follows (content : Document → Option Document) (left : List Row → List Row → List Row)
+    (before : List (Id × Held)) (done : Done) (after : List (Id × Held)) : Type 0 where
   pub rows : rows_in after ≡ left (rows_in before) done.changed
-  pub written : all_written after ≡ laid_over (all_written before) (map (λ row. (row.0, content row.1)) done.changed)
+  pub written : all_written after
+      ≡ laid_over (all_written before) (map (λ row. (row.0, content row.1)) done.changed)
   pub rising : IsRising after
   pub known : AreKnown document_rules (rows_in after)
 
@@ -89,14 +95,16 @@ abbrev pub no_content : Document → Option Document
 no_content doc = None
 
 -- an item was done, or refused
-pub record Acted (content : Document → Option Document) (left : List Row → List Row → List Row) (doing : Doing) (before after : List (Id × Held)) (met : Met) : Type 0 where
+pub record Acted (content : Document → Option Document) (left : List Row → List Row → List Row)
+    (doing : Doing) (before after : List (Id × Held)) (met : Met) : Type 0 where
   pub done : Done
   pub does : doing ≡ Ok done
   pub follows : Follows content left before done after
   pub n : met.n ≡ length done.met
   pub changed : met.changed ≡ length done.changed
 
-abbrev pub Acts : (Document → Option Document) → (List Row → List Row → List Row) → Doing → List (Id × Held) → List (Id × Held) → Result Met EvalErr → Type 0
+abbrev pub Acts : (Document → Option Document) → (List Row → List Row → List Row) → Doing
+    → List (Id × Held) → List (Id × Held) → Result Met EvalErr → Type 0
 Acts content left doing before after (Ok met) = Acted content left doing before after met
 Acts content left doing before after (Err e) = Refuses e doing
 

@@ -1,4 +1,5 @@
--- What is held under ids: documents that are lent, documents of its own, and ids without a document.
+-- What is held under ids: documents that are lent, documents of its own, and ids without a
+-- document.
 use Rattle.std.specs.Prelude.{ℕ, List, [], ◌∷◌, length, Option, Some, None, nat_le, if◌then◌else◌}
 use Rattle.bson_core.specs.Spelling.{spelling}
 use Rattle.bson_core.specs.Fields.{Document}
@@ -46,4 +47,5 @@ some_of row = (row.0, Some row.1)
 
 -- the document, where there is one and it fits
 abbrev pub fitting_in : ℕ → Held → Option Document
-fitting_in room held = elim (doc_in held) [ None ↦ None | Some doc ↦ if nat_le (length (spelling doc)) room then Some doc else None ]
+fitting_in room held = elim (doc_in held)
+    [ None ↦ None | Some doc ↦ if nat_le (length (spelling doc)) room then Some doc else None ]

@@ -3,7 +3,8 @@ use Rattle.std.specs.Prelude.{◌≡◌, Option, Some, None, Result, Ok, Err}
 use Rattle.txn_types.specs.declared.operation.What.{What}
 use Rattle.txn_types.specs.declared.operation.What.TheVariants as what
 use Rattle.query_eval.specs.declared.error.ApplyErr.{ApplyErr}
-use Rattle.query_eval.specs.declared.error.ApplyErr.TheVariants.{NotNumber, Overflow, Immutable, TooLarge, Memory}
+use Rattle.query_eval.specs.declared.error.ApplyErr.TheVariants.{NotNumber, Overflow, Immutable}
+use Rattle.query_eval.specs.declared.error.ApplyErr.TheVariants.{TooLarge, Memory}
 
 -- the error tells why the definition refuses; want of memory says nothing of it
 abbrev pub Tells : {A : Type 0} → ApplyErr → Result A What → Type 0

@@ -1,4 +1,5 @@
--- Which places beside the operand a comparison wants. Inequality asks for equality, and is turned round.
+-- Which places beside the operand a comparison wants. Inequality asks for equality, and is turned
+-- round.
 use Rattle.std.specs.Prelude.{Bool}
 use Rattle.std.specs.declared.cmp.Ordering.{Ordering}
 use Rattle.std.specs.Ordering.{is_eq, is_lt, is_le, is_gt, is_ge}

@@ -49,7 +49,8 @@ fn are_same(alloc: Global, doc: &Doc, other: &Doc) -> Result<bool, AllocError>
     Ok(bytes.as_slice() == others.as_slice())
 }
 
-/// Why an operation is refused where an update makes nothing of a document; nothing for want of memory.
+/// Why an operation is refused where an update makes nothing of a document; nothing for want of
+/// memory.
 fn told(err: ApplyErr) -> Option<What>
     ensures { result ≡ told err }
 {
@@ -117,7 +118,8 @@ fn update_item(
 ) -> Result<Met, EvalErr>
     requires rising { IsRising rows.old }
     requires known { AreKnown document_rules (rows_in rows.old) }
-    ensures { Acts put_content laid_over (update_step document_rules item.now (rows_in rows.old)) rows.old rows.new result }
+    ensures { Acts put_content laid_over (update_step document_rules item.now (rows_in rows.old))
+        rows.old rows.new result }
 {
     let mut met = Met { n: 0, changed: 0 };
     for row in rows.iter_mut() {
@@ -149,7 +151,8 @@ fn drop_row(filter: &Filter, row: &mut (Id, Held<'_>)) -> bool
 fn delete_item(item: &DeleteItem, rows: &mut [(Id, Held<'_>)]) -> Result<Met, EvalErr>
     requires rising { IsRising rows.old }
     requires known { AreKnown document_rules (rows_in rows.old) }
-    ensures { Acts no_content without (delete_step document_rules item.now (rows_in rows.old)) rows.old rows.new result }
+    ensures { Acts no_content without (delete_step document_rules item.now (rows_in rows.old))
+        rows.old rows.new result }
 {
     let mut met = Met { n: 0, changed: 0 };
     for held in rows.iter_mut() {
@@ -172,7 +175,8 @@ fn insert_item(
 ) -> Result<Met, EvalErr>
     requires rising { IsRising rows.old.items }
     requires known { AreKnown document_rules (rows_in rows.old.items) }
-    ensures { Acts put_content laid_over (insert_step document_rules item.now (rows_in rows.old.items)) rows.old.items rows.new.items result }
+    ensures { Acts put_content laid_over (insert_step document_rules item.now
+        (rows_in rows.old.items)) rows.old.items rows.new.items result }
 {
     let Some(id) = Id::in_doc(alloc, &item.doc)? else {
         return Ok(Met { n: 0, changed: 0 });
@@ -256,8 +260,9 @@ fn delete(
     Ok((OpReply::Count { n, modified: 0 }, writes))
 }
 
-/// What the operation answers and writes over these rows, under the transaction's own writes. Of an update or a find the
-/// time is linear in the number of rows, for each item; no document is copied but those that change or are found.
+/// What the operation answers and writes over these rows, under the transaction's own writes. Of an
+/// update or a find the time is linear in the number of rows, for each item; no document is copied
+/// but those that change or are found.
 pub fn eval(
     alloc: Global,
     op: &Op,

@@ -9,7 +9,8 @@ use std::cmp::Ordering;
 use txn_types::{Cmp, Filter};
 use value_order::{bracket, compare};
 
-/// Whether the comparison wants a candidate that stands so beside the operand. Inequality is equality turned round.
+/// Whether the comparison wants a candidate that stands so beside the operand. Inequality is
+/// equality turned round.
 fn is_wanted(cmp: Cmp, order: Ordering) -> bool
     ensures { result ≡ wanted cmp order }
 {

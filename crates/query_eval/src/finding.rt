@@ -29,7 +29,8 @@ fn fitting<'r>(held: &'r Held<'_>, room: u64) -> Option<&'r Doc>
 
 /// The documents from the front that fit, and the id of the next.
 fn cut(alloc: Global, marks: &[(Id, Held<'_>)]) -> Result<OpReply, AllocError>
-    ensures { IfOk result (λ r. r ≡ rows_of (cut_marks document_rules most_found (map mark_of marks.now))) }
+    ensures { IfOk result
+        (λ r. r ≡ rows_of (cut_marks document_rules most_found (map mark_of marks.now))) }
 {
     let mut docs = Vec::new(alloc);
     let mut room = ROOM;
@@ -76,7 +77,8 @@ pub fn told(
     down: bool,
     limit: u64,
 ) -> Result<OpReply, AllocError>
-    ensures { IfOk result (λ r. r ≡ rows_of (cut_marks document_rules most_found (first_of limit (ordered down (map mark_of marks.entry.items))))) }
+    ensures { IfOk result (λ r. r ≡ rows_of (cut_marks document_rules most_found
+        (first_of limit (ordered down (map mark_of marks.entry.items))))) }
 {
     let marks = first_of(ordered(marks, down), limit);
     cut(alloc, &marks)
@@ -88,7 +90,8 @@ fn matching<'a, 'b>(
     filter: &Filter,
     rows: &'a [(Id, Held<'b>)],
 ) -> Result<Vec<(Id, Held<'a>)>, AllocError>
-    ensures { IfOk result (λ r. map mark_of r.items ≡ map some_of (matching document_rules filter.now (rows_in rows.now))) }
+    ensures { IfOk result (λ r. map mark_of r.items
+        ≡ map some_of (matching document_rules filter.now (rows_in rows.now))) }
 {
     let mut marks = Vec::new(alloc);
     for (id, held) in rows {
@@ -108,7 +111,8 @@ pub fn find(
     limit: u64,
     rows: &[(Id, Held<'_>)],
 ) -> Result<OpReply, AllocError>
-    ensures { IfOk result (λ r. r ≡ rows_of (found document_rules most_found filter.now down limit (rows_in rows.now))) }
+    ensures { IfOk result (λ r. r
+        ≡ rows_of (found document_rules most_found filter.now down limit (rows_in rows.now))) }
 {
     let marks = matching(alloc, filter, rows)?;
     told(alloc, marks, down, limit)

@@ -41,7 +41,8 @@ pub fn place_of(rows: &[(Id, Held<'_>)], id: &Id) -> Result<usize, usize>
     requires { IsRising rows.now }
     ensures within { IsSearchInRange result (length rows.now) }
     ensures there { IfOk result (HoldsAt (λ row. id_cmp row.0 id.now ≡ Equal) rows.now) }
-    ensures between { IfErr result (IsPartitionPoint (λ row. id_cmp row.0 id.now ≡ Less) (λ row. id_cmp row.0 id.now ≡ Greater) rows.now) }
+    ensures between { IfErr result (IsPartitionPoint (λ row. id_cmp row.0 id.now ≡ Less)
+        (λ row. id_cmp row.0 id.now ≡ Greater) rows.now) }
 {
     let mut low = 0;
     let mut high = rows.len();

@@ -1,5 +1,5 @@
-//! Statements over rows: which documents a filter matches, what an update makes of one, what an operation answers and
-//! writes, and how the answers of several shards are told as one.
+//! Statements over rows: which documents a filter matches, what an update makes of one, what an
+//! operation answers and writes, and how the answers of several shards are told as one.
 #![tactic(auto)]
 
 mod counts;

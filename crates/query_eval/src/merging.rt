@@ -81,7 +81,8 @@ fn joined<'a>(
     parts: &'a [OpReply],
     down: bool,
 ) -> Result<Vec<(Id, Held<'a>)>, AllocError>
-    ensures { IfOk result (λ v. map mark_of v.items ≡ joined [] (map (λ told. ordered down (marks_of document_rules told)) (map found_of parts.now))) }
+    ensures { IfOk result (λ v. map mark_of v.items ≡ joined []
+        (map (λ told. ordered down (marks_of document_rules told)) (map found_of parts.now))) }
 {
     let mut all = Vec::new(alloc);
     for part in parts {
@@ -91,7 +92,8 @@ fn joined<'a>(
     Ok(all)
 }
 
-/// The reply over the joined rows of several shards, from what each replied. It is refused for want of memory alone.
+/// The reply over the joined rows of several shards, from what each replied. It is refused for want
+/// of memory alone.
 pub fn merge(alloc: Global, op: &Op, parts: &[OpReply]) -> Result<OpReply, EvalErr>
     ensures ok { IfOk result (λ r. r ≡ merge op.now parts.now) }
     ensures err { IfErr result (λ e. e ≡ Memory) }

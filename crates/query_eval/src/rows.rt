@@ -33,7 +33,8 @@ fn lend<'a>(
 ) -> Result<(), AllocError>
     requires rising { IsRising rows.old.items }
     requires unwritten { all_written rows.old.items ≡ [] }
-    ensures rows { OnOk result (rows_in rows.new.items ≡ put_row id.now doc.now (rows_in rows.old.items)) }
+    ensures rows { OnOk result
+        (rows_in rows.new.items ≡ put_row id.now doc.now (rows_in rows.old.items)) }
     ensures rising { OnOk result (IsRising rows.new.items) }
     ensures unwritten { OnOk result (all_written rows.new.items ≡ []) }
 {
@@ -62,7 +63,8 @@ fn lay<'a>(
 ) -> Result<(), AllocError>
     requires rising { IsRising rows.old.items }
     requires unwritten { all_written rows.old.items ≡ [] }
-    ensures rows { OnOk result (rows_in rows.new.items ≡ written ns.now (rows_in rows.old.items) write.now) }
+    ensures rows { OnOk result
+        (rows_in rows.new.items ≡ written ns.now (rows_in rows.old.items) write.now) }
     ensures rising { OnOk result (IsRising rows.new.items) }
     ensures unwritten { OnOk result (all_written rows.new.items ≡ []) }
 {
@@ -82,7 +84,8 @@ fn lay<'a>(
     }
 }
 
-/// The rows of the namespace under a transaction's own writes. They are lent: no document is copied.
+/// The rows of the namespace under a transaction's own writes. They are lent: no document is
+/// copied.
 pub fn rows_under<'a>(
     alloc: Global,
     ns: &Ns,

@@ -4,10 +4,11 @@ use std::alloc::{AllocError, Global};
 
 /// A file of cases that is run: how many there were, and the number of the line.
 ///
-/// A line is a comment, which begins with `#`, or one of these, whose bytes are in hexadecimal digits with spaces among
-/// them:
+/// A line is a comment, which begins with `#`, or one of these, whose bytes are in hexadecimal
+/// digits with spaces among them:
 ///
-/// - `BYTES -> TEXT`: the record that the bytes are, which is also written as these bytes; or why they are none.
+/// - `BYTES -> TEXT`: the record that the bytes are, which is also written as these bytes; or why
+///   they are none.
 /// - `BYTES => BYTES`: the bytes are a record, which is written as the others.
 #[derive(Drop)]
 pub struct Cases {

@@ -1,4 +1,5 @@
-//! Runs the cases of records that lie in a folder, and prints each that goes another way than it says.
+//! Runs the cases of records that lie in a folder, and prints each that goes another way than it
+//! says.
 #![tactic(auto)]
 
 mod cases;

@@ -1,5 +1,6 @@
 -- What fits the fields of a record: a number its bytes, a client's session 16 bytes.
-use Rattle.std.specs.Prelude.{◌≡◌, ◌<◌, ◌≤◌, ◌^◌, ℕ, true, List, [], ◌∷◌, Option, Some, None, length, FitsSigned}
+use Rattle.std.specs.Prelude.{◌≡◌, ◌<◌, ◌≤◌, ◌^◌, ℕ, true, List, [], ◌∷◌, Option, Some, None}
+use Rattle.std.specs.Prelude.{length, FitsSigned}
 use Rattle.std.specs.Int.{w64}
 use Rattle.std.specs.List.{All}
 use Rattle.std.specs.Str.{is_utf8}
@@ -39,7 +40,8 @@ PartFits part = (part.0 < 2 ^ 16) × (part.1 < 2 ^ 32)
 
 -- the fields that a document's type has, 100 levels at most, and a count that is an int32
 abbrev pub DocumentFits : Document → Type 0
-DocumentFits doc = All IsFieldWritten doc × (nesting doc ≤ 100) × (length (spelling doc) ≤ 2147483647)
+DocumentFits doc = All IsFieldWritten doc × (nesting doc ≤ 100)
+    × (length (spelling doc) ≤ 2147483647)
 
 abbrev pub IdFits : Id → Type 0
 IdFits (kinds.Num n) = FitsSigned w64 n
@@ -51,8 +53,10 @@ IdFits (kinds.Date n) = FitsSigned w64 n
 
 -- a namespace, and a document that stands under its own id; or an id
 abbrev pub WriteFits : Write → Type 0
-WriteFits (Put ns id doc) = (is_namespace ns ≡ true) × (length ns < 2 ^ 16) × DocumentFits doc × (id_in doc ≡ Some id)
-WriteFits (Delete ns id) = (is_namespace ns ≡ true) × (length ns < 2 ^ 16) × IdFits id × (length (spelling (id_document id)) ≤ 2147483647)
+WriteFits (Put ns id doc) = (is_namespace ns ≡ true) × (length ns < 2 ^ 16) × DocumentFits doc
+    × (id_in doc ≡ Some id)
+WriteFits (Delete ns id) = (is_namespace ns ≡ true) × (length ns < 2 ^ 16) × IdFits id
+    × (length (spelling (id_document id)) ≤ 2147483647)
 
 -- each write is above the one before it
 abbrev pub Rise : Option Write → List Write → Type 0
@@ -66,11 +70,15 @@ WritesFit writes = (length writes < 2 ^ 32) × All WriteFits writes × Rise None
 abbrev pub RecordFits : Rec → Type 0
 RecordFits (rec.Boot boot) = boot < 2 ^ 32
 RecordFits (rec.Ceiling bound) = bound < 2 ^ 64
-RecordFits (rec.Commit tag lsid number read_at at writes) = TagFits tag × LsidFits lsid × FitsSigned w64 number × (read_at < 2 ^ 64) × (at < 2 ^ 64) × WritesFit writes
+RecordFits (rec.Commit tag lsid number read_at at writes) = TagFits tag × LsidFits lsid
+    × FitsSigned w64 number × (read_at < 2 ^ 64) × (at < 2 ^ 64) × WritesFit writes
 RecordFits (rec.Prepared tag lsid number boot read_at at coordinator writes) =
-    TagFits tag × LsidFits lsid × FitsSigned w64 number × (boot < 2 ^ 32) × (read_at < 2 ^ 64) × (at < 2 ^ 64) × (coordinator < 2 ^ 16) × WritesFit writes
-RecordFits (rec.Decided d) = TagFits d.tag × LsidFits d.lsid × FitsSigned w64 d.number × DecisionFits d.decision
-RecordFits (rec.CoordStart tag lsid number parts) = TagFits tag × LsidFits lsid × FitsSigned w64 number × (length parts < 2 ^ 16) × All PartFits parts
+    TagFits tag × LsidFits lsid × FitsSigned w64 number × (boot < 2 ^ 32) × (read_at < 2 ^ 64)
+    × (at < 2 ^ 64) × (coordinator < 2 ^ 16) × WritesFit writes
+RecordFits (rec.Decided d) = TagFits d.tag × LsidFits d.lsid × FitsSigned w64 d.number
+    × DecisionFits d.decision
+RecordFits (rec.CoordStart tag lsid number parts) = TagFits tag × LsidFits lsid
+    × FitsSigned w64 number × (length parts < 2 ^ 16) × All PartFits parts
 RecordFits (rec.CoordDecision tag decision) = TagFits tag × DecisionFits decision
 RecordFits (rec.CoordEnd tag) = TagFits tag
 RecordFits (rec.Floor floor) = floor < 2 ^ 64

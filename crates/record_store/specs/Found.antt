@@ -18,10 +18,12 @@ abbrev pub read_then : ℕ → Result Rec RecErr → Result (List Rec) ℕ → R
 read_then index (Ok r) following = in_front r following
 read_then index (Err e) following = Err index
 
--- the records that payloads are, from this number on; or the number of the first payload that is none
+-- the records that payloads are, from this number on; or the number of the first payload that is
+-- none
 abbrev pub records_from : ℕ → List (List ℕ) → Result (List Rec) ℕ
 records_from index [] = Ok []
-records_from index (payload ∷ payloads) = read_then index (record_of payload) (records_from (index + 1) payloads)
+records_from index (payload ∷ payloads) =
+    read_then index (record_of payload) (records_from (index + 1) payloads)
 
 abbrev pub records_of : List (List ℕ) → Result (List Rec) ℕ
 records_of payloads = records_from 0 payloads
@@ -47,7 +49,8 @@ HasBadBytes file index = (at : ℕ) × (payloads_of file ≡ Err at) × StandBef
 
 -- the payload of this number is the first that is no record
 abbrev pub HasBadRecord : List ℕ → ℕ → Type 0
-HasBadRecord file index = (payloads : List (List ℕ)) × (payloads_of file ≡ Ok payloads) × (records_of payloads ≡ Err index)
+HasBadRecord file index = (payloads : List (List ℕ)) × (payloads_of file ≡ Ok payloads)
+    × (records_of payloads ≡ Err index)
 
 -- why the records of a file aren't read
 abbrev pub RefusesFile : Type 0 → List ℕ → NodeErr → Type 0
@@ -70,7 +73,8 @@ RefusesFrames told frames Memory = Unit {0}
 -- why a payload isn't read as a record
 abbrev pub RefusesPayload : ℕ → List ℕ → NodeErr → Type 0
 RefusesPayload number payload DiskFault = ⊥
-RefusesPayload number payload (BadJournal index) = (index ≡ number) × (e : RecErr) × (record_of payload ≡ Err e)
+RefusesPayload number payload (BadJournal index) = (index ≡ number) × (e : RecErr)
+    × (record_of payload ≡ Err e)
 RefusesPayload number payload Memory = Unit {0}
 
 -- the disk of a log that started, or the one that was given back

@@ -1,13 +1,14 @@
 -- A log of records on a disk, as contracts see it.
-use Rattle.std.specs.Prelude.{◌≡◌, ◌⊎◌, ℕ, Bool, false, IsTrue, List, [], ◌∷◌, Option, Some, None, is_some, Ok}
+use Rattle.std.specs.Prelude.{◌≡◌, ◌⊎◌, ℕ, Bool, false, IsTrue, List, [], ◌∷◌, Option, Some, None}
+use Rattle.std.specs.Prelude.{is_some, Ok}
 use Rattle.journal_rec.specs.Reading.{record_of}
 use Rattle.journal_rec.specs.Spelling.{record_bytes}
 use Rattle.journal_rec.specs.declared.record.Rec.{Rec}
 use Rattle.journal_core.specs.Left.{Leaves}
 use Rattle.journal_core.specs.State.{JournalState}
 
--- the journal, the records that it holds, the one that an append which failed had in hand, and for how many more there
--- is memory
+-- the journal, the records that it holds, the one that an append which failed had in hand, and for
+-- how many more there is memory
 pub record DiskRecords (D : Type 0) : Type 0 where
   pub journal : JournalState D
   pub records : List Rec
@@ -41,7 +42,8 @@ pub record LeftOf (may_leave : List ℕ → Type 0) (recs : List Rec) (hand : Op
   pub left : (c : List ℕ) → may_leave c → Leaves payloads (payload_in hand) c
 
 -- While no append failed, the payloads of the journal are those of the records.
-pub record IsLogged (tells : Bool) (may_leave : List ℕ → Type 0) (frames : List (List ℕ)) (closed : Bool) (recs : List Rec) (hand : Option Rec) : Type 0 where
+pub record IsLogged (tells : Bool) (may_leave : List ℕ → Type 0) (frames : List (List ℕ))
+    (closed : Bool) (recs : List Rec) (hand : Option Rec) : Type 0 where
   pub failed : closed ≡ is_some hand
   pub held : IsTrue tells → closed ≡ false → AreOf frames recs
   pub left : IsTrue tells → LeftOf may_leave recs hand

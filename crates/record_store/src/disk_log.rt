@@ -55,11 +55,13 @@ impl<D: Disk> DiskLog<D> {
         ensures tells { D.tells (disk_in result) ≡ D.tells disk }
         ensures open { IfOk result (λ l. (l.journal.closed ≡ false) × (l.hand ≡ None)) }
         ensures found { IfOk result (λ l. FoundIn (IsTrue (D.tells disk)) (D.seen disk) l.records) }
-        ensures refused { IfErr result (λ e. RefusesFile (IsTrue (D.tells disk)) (D.seen disk) e.0) }
+        ensures refused { IfErr result
+            (λ e. RefusesFile (IsTrue (D.tells disk)) (D.seen disk) e.0) }
         ensures later { D.fault_count disk ≤ D.fault_count (disk_in result) }
         ensures fault { IfErr result (λ e.
             e.0 ≡ NodeErr.DiskFault → Rose (D.fault_count disk) (D.fault_count e.1)) }
-        // On a disk that a journal left, a crash at any moment leaves what a crash of that journal might have left.
+        // On a disk that a journal left, a crash at any moment leaves what a crash of that journal
+        // might have left.
         ensures any_moment { IsTrue (D.tells disk)
             → (frames : List (List ℕ)) (hand : List ℕ)
             → ((c : List ℕ) → D.may_leave disk c → Leaves frames hand c)
@@ -80,10 +82,12 @@ impl<D: Disk> DiskLog<D> {
     fn of(alloc: Global, journal: Journal<D>) -> Result<DiskLog<D>, (NodeErr, D)>
         requires open { journal.closed ≡ false }
         requires rests { IsTrue (D.tells journal.disk)
-            → IsAtRest (D.seen journal.disk) (D.may_leave journal.disk) journal.frames journal.count journal.end }
+            → IsAtRest (D.seen journal.disk) (D.may_leave journal.disk) journal.frames journal.count
+            journal.end }
         ensures tells { D.tells (disk_in result) ≡ D.tells journal.disk }
         ensures open { IfOk result (λ l. (l.journal.closed ≡ false) × (l.hand ≡ None)) }
-        ensures found { IfOk result (λ l. ReadFrom (IsTrue (D.tells journal.disk)) journal.frames l.records) }
+        ensures found { IfOk result
+            (λ l. ReadFrom (IsTrue (D.tells journal.disk)) journal.frames l.records) }
         ensures refused { IfErr result (λ e.
             RefusesFrames (IsTrue (D.tells journal.disk)) journal.frames e.0) }
         ensures later { D.fault_count journal.disk ≤ D.fault_count (disk_in result) }
@@ -110,7 +114,8 @@ impl<D: Disk> DiskLog<D> {
         requires carries { (body_bytes rec ≡ []) ⊎ (body_bytes rec ≡ drop 64 payload.old) }
         ensures ok { OnOk result ((self.new.records ≡ self.old.records ++ rec ∷ [])
             × (self.new.hand ≡ self.old.hand) × (self.old.room ≡ self.new.room + 1)) }
-        ensures err { OnErr result ((self.new.records ≡ self.old.records) × (self.new.hand ≡ Some rec)) }
+        ensures err { OnErr result
+            ((self.new.records ≡ self.old.records) × (self.new.hand ≡ Some rec)) }
         ensures closed { self.new.journal.closed ≡ is_err result }
         ensures faults { FailsOnly DiskErr.Failed
             (D.fault_count self.old.journal.disk) (D.fault_count self.new.journal.disk) result }
@@ -137,7 +142,8 @@ impl<D: Disk> DiskLog<D> {
     /// The disk, to start again. A crash leaves its records, or these and the one in hand.
     pub fn into_disk(self) -> D
         ensures disk { result ≡ self.journal.disk }
-        ensures left { IsTrue (D.tells result) → LeftOf (D.may_leave result) self.records self.hand }
+        ensures left { IsTrue (D.tells result)
+            → LeftOf (D.may_leave result) self.records self.hand }
     {
         let DiskLog { journal, .. } = self;
         journal.into_disk()

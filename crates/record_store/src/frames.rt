@@ -25,8 +25,8 @@ fn told_size(front: &[u8; 5]) -> u64
     u32::from_le_bytes([front[1], front[2], front[3], front[4]]) as u64
 }
 
-/// The length of the payload of the frame at this place of a file of this length. None stands there, or none that fits,
-/// where it is `None`.
+/// The length of the payload of the frame at this place of a file of this length. None stands
+/// there, or none that fits, where it is `None`.
 fn frame_at<D: Disk>(disk: &mut D, place: u64, len: u64) -> Result<Option<u64>, DiskErr>
     requires inside { place < len }
     requires length { IsTrue (D.tells disk.old) → length (D.seen disk.old) ≡ len }
@@ -57,7 +57,8 @@ fn count_frames<D: Disk>(disk: &mut D) -> Result<u64, DiskErr>
     ensures tells { D.tells disk.new ≡ D.tells disk.old }
     ensures looks { IsTrue (D.tells disk.old)
         → Looks D.seen D.may_leave D.moment D.left_since disk.old disk.new }
-    ensures count { IsTrue (D.tells disk.old) → (at : ℕ) → payloads_of (D.seen disk.old) ≡ Err at → 16 ≤ at
+    ensures count { IsTrue (D.tells disk.old) → (at : ℕ)
+        → payloads_of (D.seen disk.old) ≡ Err at → 16 ≤ at
         → IfOk result (λ count. Walked (D.seen disk.old) count at) }
     ensures faults { FailsOnly DiskErr.Failed
         (D.fault_count disk.old) (D.fault_count disk.new) result }

@@ -1,4 +1,5 @@
-//! Logs of a node's records: on a disk, whose journal holds each record before its append returns, or in a list.
+//! Logs of a node's records: on a disk, whose journal holds each record before its append returns,
+//! or in a list.
 #![tactic(auto)]
 
 mod disk_log;

@@ -51,6 +51,7 @@ pub trait RecordLog {
             × (lost self.new ≡ lost self.old) × (room self.old ≡ room self.new + 1)) }
         ensures err { OnErr result ((kept self.new ≡ kept self.old) × (lost self.new ≡ rec ∷ [])) }
         ensures closed { is_closed self.new ≡ is_err result }
-        ensures faults { FailsOnly DiskErr.Failed (fault_count self.old) (fault_count self.new) result }
+        ensures faults { FailsOnly DiskErr.Failed (fault_count self.old)
+            (fault_count self.new) result }
         ensures payload { drop 64 payload.new ≡ drop 64 payload.old };
 }

@@ -12,8 +12,9 @@ use txn_types::{Parts, Write};
 /// How many bytes the front of a record has at most.
 const FRONT: usize = 64;
 
-/// What a record that is to be appended may carry behind its front, its writes or its participants, with room for a front.
-/// It is made before the record is there, so that the record itself is appended without memory.
+/// What a record that is to be appended may carry behind its front, its writes or its participants,
+/// with room for a front. It is made before the record is there, so that the record itself is
+/// appended without memory.
 #[derive(Drop)]
 pub struct Payload {
     bytes: Vec<u8>,
@@ -89,7 +90,8 @@ impl Payload {
         }
     }
 
-    /// Writes the front of a record at the end of the room for it, and gives the place where it begins.
+    /// Writes the front of a record at the end of the room for it, and gives the place where it
+    /// begins.
     pub(crate) fn put_front(&mut self, rec: &Rec) -> usize
         ensures place { result ≤ 64 }
         ensures front { drop result (take 64 self.new) ≡ front_bytes rec.now }

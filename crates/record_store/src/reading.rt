@@ -43,8 +43,10 @@ pub fn read_records(alloc: Global, payloads: &[Vec<u8>]) -> Result<Vec<Rec>, Nod
 /// The records of a journal that has just started.
 pub fn read_journal<D: Disk>(alloc: Global, journal: &mut Journal<D>) -> Result<Vec<Rec>, NodeErr>
     requires { journal.old.closed ≡ false }
-    ensures read { IfOk result (λ recs. ReadFrom (IsTrue (D.tells journal.old.disk)) journal.old.frames recs.items) }
-    ensures refused { IfErr result (RefusesFrames (IsTrue (D.tells journal.old.disk)) journal.old.frames) }
+    ensures read { IfOk result
+        (λ recs. ReadFrom (IsTrue (D.tells journal.old.disk)) journal.old.frames recs.items) }
+    ensures refused { IfErr result
+        (RefusesFrames (IsTrue (D.tells journal.old.disk)) journal.old.frames) }
     ensures open { OnOk result (journal.new.closed ≡ false) }
     ensures tells { D.tells journal.new.disk ≡ D.tells journal.old.disk }
     ensures looks { IsTrue (D.tells journal.old.disk) → (journal.new.frames ≡ journal.old.frames)

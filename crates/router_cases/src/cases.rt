@@ -1,30 +1,38 @@
 use crate::standing::Standing;
 use std::alloc::{AllocError, Global};
 
-/// A file of cases that is run: how many there were, the number of the line, the router, and what it gave out at the last
-/// event, of which the lines have told so many.
+/// A file of cases that is run: how many there were, the number of the line, the router, and what
+/// it gave out at the last event, of which the lines have told so many.
 ///
-/// A case is an event and, below it, a line for each thing that the router gives out at it: `-> MESSAGE`, `-> REPLY`,
-/// `-> closed N`, or `-> nothing`. Other lines are comments, which begin with `#`, or set something:
+/// A case is an event and, below it, a line for each thing that the router gives out at it: `->
+/// MESSAGE`, `-> REPLY`,
+/// `-> closed N`, or `-> nothing`. Other lines are comments, which begin with `#`, or set
+/// something:
 ///
-/// - `shards N`, and `range NAMESPACE SHARD` or `range NAMESPACE SHARD from ID`: how many shards the routers behind it
+/// - `shards N`, and `range NAMESPACE SHARD` or `range NAMESPACE SHARD from ID`: how many shards
+///   the routers behind it
 ///   have, and their ranges, front to back; an id is a number or a text.
 /// - `router N boot B`: a new router, at the wall 1.
 /// - `wall SECONDS`: the moment of the events behind it.
 ///
 /// Events:
 ///
-/// - `client CONNECTION HEX`, a message; `gone CONNECTION`; `resend`; `moment`; and `boot`, which asks for the router's.
-/// - `sN TIME Answer tag TAG k K shard N boot B read TIME` and then `count N modified N`, `count N modified N wrote`, `rows
-///   ID:A ..`, which are documents `{_id: ID, a: A}`, `rows ID:A .. cut ID`, or a cause, from a shard at its time. A time is
+/// - `client CONNECTION HEX`, a message; `gone CONNECTION`; `resend`; `moment`; and `boot`, which
+///   asks for the router's.
+/// - `sN TIME Answer tag TAG k K shard N boot B read TIME` and then `count N modified N`, `count N
+///   modified N wrote`, `rows
+///   ID:A ..`, which are documents `{_id: ID, a: A}`, `rows ID:A .. cut ID`, or a cause, from a
+///   shard at its time. A time is
 ///   `SECONDS.INCREMENT`, and a tag `ROUTER.BOOT.SERIAL`.
-/// - `sN TIME Outcome tag TAG shard N boot B` and then `committed TIME`, `released`, `aborted CAUSE`, `too-old NUMBER` or
+/// - `sN TIME Outcome tag TAG shard N boot B` and then `committed TIME`, `released`, `aborted
+///   CAUSE`, `too-old NUMBER` or
 ///   `no-trace`.
 /// - `sN TIME Nudge`, and `sN TIME Acked tag TAG shard N`, which are no matter of a router.
 ///
-/// Messages that are given out read so too: `sN TIME Statement ..` goes to that shard. A reply is `reply CONNECTION to
-/// REQUEST DOCUMENT`, with `at TIME` in place of the times at its end; one in the older form of messages is `older reply
-/// CONNECTION HEX DOCUMENT`, with the bytes in front of its document.
+/// Messages that are given out read so too: `sN TIME Statement ..` goes to that shard. A reply is
+/// `reply CONNECTION to REQUEST DOCUMENT`, with `at TIME` in place of the times at its end; one in
+/// the older form of messages is `older reply CONNECTION HEX DOCUMENT`, with the bytes in front of
+/// its document.
 #[derive(Drop)]
 pub struct Cases {
     pub count: u64,

@@ -1,5 +1,5 @@
-//! Runs the cases of a router that lie in a folder, and prints each that goes another way than it says: what a router sends and
-//! replies at each event.
+//! Runs the cases of a router that lie in a folder, and prints each that goes another way than it
+//! says: what a router sends and replies at each event.
 #![tactic(auto)]
 
 mod cases;

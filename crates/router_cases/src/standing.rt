@@ -142,7 +142,8 @@ impl Standing {
         Ok(given)
     }
 
-    /// What the router gives out at what a line says that happens, each thing in words; none, where it says no such thing.
+    /// What the router gives out at what a line says that happens, each thing in words; none, where
+    /// it says no such thing.
     pub fn give(&mut self, alloc: Global, line: &str) -> Result<Option<Vec<String>>, AllocError> {
         if line == "boot" {
             return Ok(Some(self.boot(alloc)?));

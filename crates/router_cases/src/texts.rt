@@ -68,7 +68,8 @@ fn envelope_text(alloc: Global, envelope: &Envelope, router: u16) -> Result<Stri
     Ok(out)
 }
 
-/// The text of a reply's document. The times at its end, which are one time, are told as `at SECONDS.INCREMENT`.
+/// The text of a reply's document. The times at its end, which are one time, are told as `at
+/// SECONDS.INCREMENT`.
 fn put_document(alloc: Global, out: &mut String, doc: &Doc) -> Result<(), AllocError> {
     let Ok(text) = print(alloc, doc) else {
         return Err(AllocError);
@@ -115,7 +116,8 @@ fn reply_text(alloc: Global, conn: u32, bytes: &[u8]) -> Result<String, AllocErr
     Ok(out)
 }
 
-/// What a router gave out at an event, each thing in words: messages, replies, and that the connection is closed.
+/// What a router gave out at an event, each thing in words: messages, replies, and that the
+/// connection is closed.
 pub fn words_of(alloc: Global, turn: &Turn, router: u16) -> Result<Vec<String>, AllocError> {
     let mut given = Vec::new(alloc);
     for envelope in turn.out.as_slice() {

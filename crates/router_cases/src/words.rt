@@ -4,7 +4,8 @@ use std::alloc::{AllocError, Global};
 use std::str::SplitWhitespace;
 use txn_types::{By, Cause, Id, OpErr, Tag, Ts, What};
 
-/// The words of a line, which are taken from the front. A word that is missing is empty, and one that is no number is 0.
+/// The words of a line, which are taken from the front. A word that is missing is empty, and one
+/// that is no number is 0.
 #[derive(Drop)]
 pub struct Words<'a> {
     words: SplitWhitespace<'a>,

@@ -2,8 +2,8 @@
 use Rattle.std.specs.Prelude.{◌≡◌, ◌≤◌, ◌+◌}
 use Rattle.router_state.specs.State.{RouterState}
 
--- a router goes on: it stays the one that was started, with its map; its wall and its time never fall; and a step draws one
--- serial at most, which is the next
+-- a router goes on: it stays the one that was started, with its map; its wall and its time never
+-- fall; and a step draws one serial at most, which is the next
 pub record GoesOn (old new : RouterState) : Type 0 where
   pub number : new.number ≡ old.number
   pub boot : new.boot ≡ old.boot

@@ -1,5 +1,6 @@
 -- The step of a router: what an event changes, and what is then given out.
-use Rattle.std.specs.Prelude.{◌≡◌, ℕ, Bool, true, false, List, [], ◌++◌, map, Option, Some, None, Result, Ok, Err, if◌then◌else◌}
+use Rattle.std.specs.Prelude.{◌≡◌, ℕ, Bool, true, false, List, [], ◌++◌, map, Option, Some, None}
+use Rattle.std.specs.Prelude.{Result, Ok, Err, if◌then◌else◌}
 use Rattle.txn_types.specs.Letters.{all_sent_by}
 use Rattle.txn_types.specs.declared.event.Happening.{Happening}
 use Rattle.txn_types.specs.declared.event.Happening.TheVariants as what
@@ -28,8 +29,8 @@ use Rattle.router_core.specs.Requests.{serves}
 use Rattle.router_rules.specs.Resends.{resent}
 use Rattle.router_rules.specs.Serving.{answered_in, ended_in}
 
--- the state behind a step, the messages and replies that it gives out, and the number of the refusal that closes the
--- event's connection
+-- the state behind a step, the messages and replies that it gives out, and the number of the
+-- refusal that closes the event's connection
 pub record RouterTurn : Type 0 where
   pub state : RouterState
   pub out : List Envelope
@@ -52,11 +53,15 @@ asker_by conn bytes = record { conn = conn; request = request_id bytes }
 -- where the sender wants no reply, it gets none
 abbrev pub unless_silent : Bool → Move → Move
 unless_silent true move = move
-unless_silent false move = record { state = move.state; given = record { aborts = move.given.aborts; sends = move.given.sends; replies = [] } }
+unless_silent false move = record {
+  state = move.state;
+  given = record { aborts = move.given.aborts; sends = move.given.sends; replies = [] };
+}
 
 abbrev pub served : RouterState → ℕ → List ℕ → Result Request Unserved → Move
 served s conn bytes (Ok asked) = serves s (asker_by conn bytes) (is_legacy bytes) asked
-served s conn bytes (Err (Told why)) = told_also (still s) (asker_by conn bytes) (is_legacy bytes) (Refused why)
+served s conn bytes (Err (Told why)) =
+    told_also (still s) (asker_by conn bytes) (is_legacy bytes) (Refused why)
 served s conn bytes (Err (Closed number)) = still s
 served s conn bytes (Err Memory) = still s
 
@@ -71,7 +76,8 @@ closed_by (Err (Closed number)) = Some number
 closed_by other = None
 
 abbrev pub closed_at : RouterState → Happening → Option ℕ
-closed_at s (what.Client conn bytes) = if is_waiting s conn then None else closed_by (asked_in s.wall bytes)
+closed_at s (what.Client conn bytes) = if is_waiting s conn then None
+    else closed_by (asked_in s.wall bytes)
 closed_at s other = None
 
 -- The step.
@@ -88,7 +94,8 @@ abbrev pub given_out : Option ℕ → Move → RouterTurn
 given_out closed move =
     record {
       state = move.state;
-      out = all_sent_by (Router move.state.number) move.state.time (map letter_of (move.given.aborts ++ move.given.sends));
+      out = all_sent_by (Router move.state.number) move.state.time (map letter_of
+          (move.given.aborts ++ move.given.sends));
       replies = move.given.replies;
       closed = closed;
     }
@@ -96,7 +103,8 @@ given_out closed move =
 -- without memory nothing has changed
 unfoldable pub router_step : Bool → RouterState → NodeEvent → RouterTurn
 router_step true s e = record { state = s; out = []; replies = []; closed = None }
-router_step false s e = given_out (closed_at (walled s e.wall) e.what) (happened (walled s e.wall) e.what)
+router_step false s e =
+    given_out (closed_at (walled s e.wall) e.what) (happened (walled s e.wall) e.what)
 
 abbrev pub answer_of : Bool → RouterTurn → NodeAnswer
 answer_of true turn = answer.Memory
@@ -105,4 +113,5 @@ answer_of false turn = answer.Did turn.out (map (spelled turn.state.time) turn.r
 -- what a router's step may be
 abbrev pub RouterTakes : RouterState → NodeEvent → NodeAnswer → RouterState → Type 0
 RouterTakes old e a new =
-    (want : Bool) × (a ≡ answer_of want (router_step want old e)) × (new ≡ (router_step want old e).state)
+    (want : Bool) × (a ≡ answer_of want (router_step want old e))
+    × (new ≡ (router_step want old e).state)

@@ -24,7 +24,8 @@ fn commit_sought(
     txn: Txn,
     token: Option<Token>,
 ) -> Result<Plan, AllocError>
-    ensures moved { IfOk result (λ p. move_of p chunks.now sessions.now ≡ commit_sought (state_of base.now chunks.now sessions.now) asker txn (entry_of txn.lsid sessions.now) token) }
+    ensures moved { IfOk result (λ p. move_of p chunks.now sessions.now ≡ commit_sought (state_of
+        base.now chunks.now sessions.now) asker txn (entry_of txn.lsid sessions.now) token) }
     ensures fits { IfOk result (λ p. FitsIn (length sessions.now) p.change) }
 {
     let Some(Token::Placed { tag, shard, boot }) = token else {
@@ -41,8 +42,8 @@ fn commit_sought(
     Ok(done_in(base, chunks, sessions, txn.lsid, deed))
 }
 
-/// A commit of the transaction that the request names: one that was begun here by what the router knows, any other by its
-/// token.
+/// A commit of the transaction that the request names: one that was begun here by what the router
+/// knows, any other by its token.
 fn commit_in(
     alloc: Global,
     base: &Base,
@@ -53,7 +54,8 @@ fn commit_in(
     token: Option<Token>,
 ) -> Result<Plan, AllocError>
     requires { IsSafe (state_of base.now chunks.now sessions.now) }
-    ensures moved { IfOk result (λ p. move_of p chunks.now sessions.now ≡ commit_in (state_of base.now chunks.now sessions.now) asker txn (entry_of txn.lsid sessions.now) token) }
+    ensures moved { IfOk result (λ p. move_of p chunks.now sessions.now ≡ commit_in (state_of
+        base.now chunks.now sessions.now) asker txn (entry_of txn.lsid sessions.now) token) }
     ensures fits { IfOk result (λ p. FitsIn (length sessions.now) p.change) }
 {
     let session = entry_of(&txn.lsid, sessions);
@@ -81,7 +83,8 @@ pub fn commit(
     token: Option<Token>,
 ) -> Result<Plan, AllocError>
     requires { IsSafe (state_of base.now chunks.now sessions.now) }
-    ensures moved { IfOk result (λ p. move_of p chunks.now sessions.now ≡ commit (state_of base.now chunks.now sessions.now) asker txn token) }
+    ensures moved { IfOk result (λ p. move_of p chunks.now sessions.now
+        ≡ commit (state_of base.now chunks.now sessions.now) asker txn token) }
     ensures fits { IfOk result (λ p. FitsIn (length sessions.now) p.change) }
 {
     match txn {
@@ -99,7 +102,8 @@ fn abort_in(
     asker: Asker,
     txn: Txn,
 ) -> Result<Plan, AllocError>
-    ensures moved { IfOk result (λ p. move_of p chunks.now sessions.now ≡ abort (state_of base.now chunks.now sessions.now) asker (Some txn)) }
+    ensures moved { IfOk result (λ p. move_of p chunks.now sessions.now
+        ≡ abort (state_of base.now chunks.now sessions.now) asker (Some txn)) }
     ensures fits { IfOk result (λ p. FitsIn (length sessions.now) p.change) }
 {
     let session = entry_of(&txn.lsid, sessions);
@@ -124,7 +128,8 @@ pub fn abort(
     asker: Asker,
     txn: Option<Txn>,
 ) -> Result<Plan, AllocError>
-    ensures moved { IfOk result (λ p. move_of p chunks.now sessions.now ≡ abort (state_of base.now chunks.now sessions.now) asker txn) }
+    ensures moved { IfOk result (λ p. move_of p chunks.now sessions.now
+        ≡ abort (state_of base.now chunks.now sessions.now) asker txn) }
     ensures fits { IfOk result (λ p. FitsIn (length sessions.now) p.change) }
 {
     match txn {

@@ -16,7 +16,9 @@ use txn_types::Lsid;
 /// The end of one session, in place.
 #[tactic(auto, using(crate::proofs::Ending::with_same))]
 fn end_session(alloc: Global, lsid: Lsid, sessions: &mut Table) -> Result<Given, AllocError>
-    ensures { (base : Base) (chunks : Map) → IfOk result (λ g. record { state = state_of base chunks sessions.new; given = g } ≡ end_session (state_of base chunks sessions.old) lsid (entry_of lsid sessions.old)) }
+    ensures { (base : Base) (chunks : Map)
+        → IfOk result (λ g. record { state = state_of base chunks sessions.new; given = g }
+        ≡ end_session (state_of base chunks sessions.old) lsid (entry_of lsid sessions.old)) }
 {
     let deed = match entry_of(&lsid, sessions.as_slice()) {
         Some(session) => ends_session(alloc, lsid, session)?,
@@ -40,7 +42,8 @@ pub fn end_sessions(
     sessions: &[(Lsid, Session)],
     ids: &[Lsid],
 ) -> Result<Plan, AllocError>
-    ensures moved { IfOk result (λ p. move_of p chunks.now sessions.now ≡ end_sessions (state_of base.now chunks.now sessions.now) ids.now) }
+    ensures moved { IfOk result (λ p. move_of p chunks.now sessions.now
+        ≡ end_sessions (state_of base.now chunks.now sessions.now) ids.now) }
     ensures fits { IfOk result (λ p. FitsIn (length sessions.now) p.change) }
 {
     let mut all = copy_table(alloc, sessions)?;

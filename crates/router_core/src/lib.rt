@@ -1,5 +1,6 @@
-//! A router: it takes clients' requests apart, sends their parts to shards, and puts the answers together. What stands below it
-//! tells what a message asks (router_plan) and what becomes of a transaction (router_txn); here is the step over all sessions.
+//! A router: it takes clients' requests apart, sends their parts to shards, and puts the answers
+//! together. What stands below it tells what a message asks (router_plan) and what becomes of a
+//! transaction (router_txn); here is the step over all sessions.
 #![tactic(auto)]
 
 mod commits;

@@ -13,7 +13,8 @@ use txn_types::{Lsid, Ts};
 
 /// Nothing changes in the sessions, and nothing is given out.
 pub fn still(alloc: Global, base: &Base, chunks: &ChunkMap, sessions: &[(Lsid, Session)]) -> Plan
-    ensures moved { move_of result chunks.now sessions.now ≡ still (state_of base.now chunks.now sessions.now) }
+    ensures moved { move_of result chunks.now sessions.now
+        ≡ still (state_of base.now chunks.now sessions.now) }
     ensures fits { FitsIn (length sessions.now) result.change }
 {
     router_plan::still(alloc, base)
@@ -28,7 +29,8 @@ pub fn answers(
     asker: Asker,
     reply: Reply,
 ) -> Result<Plan, AllocError>
-    ensures moved { IfOk result (λ p. move_of p chunks.now sessions.now ≡ answers (state_of base.now chunks.now sessions.now) asker reply) }
+    ensures moved { IfOk result (λ p. move_of p chunks.now sessions.now
+        ≡ answers (state_of base.now chunks.now sessions.now) asker reply) }
     ensures fits { IfOk result (λ p. FitsIn (length sessions.now) p.change) }
 {
     router_plan::answers(alloc, base, asker, reply)
@@ -42,7 +44,8 @@ pub fn done_in(
     lsid: Lsid,
     deed: Deed,
 ) -> Plan
-    ensures moved { move_of result chunks.now sessions.now ≡ done_in (state_of base.now chunks.now sessions.now) lsid deed }
+    ensures moved { move_of result chunks.now sessions.now
+        ≡ done_in (state_of base.now chunks.now sessions.now) lsid deed }
     ensures fits { FitsIn (length sessions.now) result.change }
 {
     router_plan::done_in(base, lsid, deed)
@@ -58,7 +61,8 @@ pub fn told_also(
     legacy: bool,
     reply: Reply,
 ) -> Result<Plan, AllocError>
-    ensures moved { IfOk result (λ p. move_of p chunks.now sessions.now ≡ told_also (move_of plan chunks.now sessions.now) asker legacy reply) }
+    ensures moved { IfOk result (λ p. move_of p chunks.now sessions.now
+        ≡ told_also (move_of plan chunks.now sessions.now) asker legacy reply) }
     ensures kept { IfOk result (λ p. p.change ≡ plan.change) }
 {
     router_plan::told_also(alloc, plan, asker, legacy, reply)
@@ -66,14 +70,16 @@ pub fn told_also(
 
 /// With the wall that an event names.
 pub fn walled(base: &Base, chunks: &ChunkMap, sessions: &[(Lsid, Session)], wall: u32) -> Base
-    ensures { state_of result chunks.now sessions.now ≡ walled (state_of base.now chunks.now sessions.now) wall }
+    ensures { state_of result chunks.now sessions.now
+        ≡ walled (state_of base.now chunks.now sessions.now) wall }
 {
     router_plan::walled(base, wall)
 }
 
 /// With a time that was told.
 pub fn timed(base: &Base, chunks: &ChunkMap, sessions: &[(Lsid, Session)], time: Ts) -> Base
-    ensures { state_of result chunks.now sessions.now ≡ timed (state_of base.now chunks.now sessions.now) time }
+    ensures { state_of result chunks.now sessions.now
+        ≡ timed (state_of base.now chunks.now sessions.now) time }
 {
     router_plan::timed(base, time)
 }
@@ -86,7 +92,8 @@ pub fn met(
     time: Option<Ts>,
     after: Option<Ts>,
 ) -> Base
-    ensures { state_of result chunks.now sessions.now ≡ met (state_of base.now chunks.now sessions.now) time after }
+    ensures { state_of result chunks.now sessions.now
+        ≡ met (state_of base.now chunks.now sessions.now) time after }
 {
     router_plan::met(base, time, after)
 }

@@ -56,7 +56,8 @@ pub fn in_each(
     what: &Happening,
 ) -> Result<Plan, AllocError>
     requires { AreSafe base.now.serial sessions.now }
-    ensures moved { IfOk result (λ p. move_of p chunks.now sessions.now ≡ in_each_session (acts what.now) (state_of base.now chunks.now sessions.now)) }
+    ensures moved { IfOk result (λ p. move_of p chunks.now sessions.now
+        ≡ in_each_session (acts what.now) (state_of base.now chunks.now sessions.now)) }
     ensures places { IfOk result (λ p. FitsIn (length sessions.now) p.change) }
 {
     let mut places = Vec::new(alloc);

@@ -28,7 +28,8 @@ pub fn serves(
     request: &Request,
 ) -> Result<Plan, AllocError>
     requires { IsSafe (state_of base.now chunks.now sessions.now) }
-    ensures moved { IfOk result (λ p. move_of p chunks.now sessions.now ≡ serves (state_of base.now chunks.now sessions.now) asker legacy request.now) }
+    ensures moved { IfOk result (λ p. move_of p chunks.now sessions.now
+        ≡ serves (state_of base.now chunks.now sessions.now) asker legacy request.now) }
     ensures fits { IfOk result (λ p. FitsIn (length sessions.now) p.change) }
 {
     match request {

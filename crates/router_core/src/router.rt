@@ -16,8 +16,8 @@ use std::alloc::{AllocError, Global};
 use std::marker::Model;
 use txn_types::{Lsid, NodeEvent, Ts};
 
-/// A router: its number and boot, the greatest wall (in seconds since 1970) and cluster time that it has met, the serial that
-/// it drew last; the map by which it sends; and its sessions.
+/// A router: its number and boot, the greatest wall (in seconds since 1970) and cluster time that
+/// it has met, the serial that it drew last; the map by which it sends; and its sessions.
 #[derive(Drop)]
 pub struct Router {
     alloc: Global,
@@ -61,8 +61,10 @@ fn stepped(
     event: &NodeEvent,
 ) -> Result<Next, AllocError>
     requires { IsSafe (state_of base.now chunks.now sessions.now) }
-    ensures state { IfOk result (λ n. state_of n.base chunks.now (changed n.change sessions.now) ≡ (router_step false (state_of base.now chunks.now sessions.now) event.now).state) }
-    ensures turn { IfOk result (λ n. IsTurn (router_step false (state_of base.now chunks.now sessions.now) event.now) n.turn) }
+    ensures state { IfOk result (λ n. state_of n.base chunks.now (changed n.change sessions.now)
+        ≡ (router_step false (state_of base.now chunks.now sessions.now) event.now).state) }
+    ensures turn { IfOk result (λ n.
+        IsTurn (router_step false (state_of base.now chunks.now sessions.now) event.now) n.turn) }
     ensures fits { IfOk result (λ n. FitsIn (length sessions.now) n.change) }
 {
     let later = walled(base, chunks, sessions, event.wall);

@@ -36,7 +36,8 @@ fn unless_silent(
     wants: bool,
     plan: Plan,
 ) -> Plan
-    ensures moved { move_of result chunks.now sessions.now ≡ unless_silent wants (move_of plan chunks.now sessions.now) }
+    ensures moved { move_of result chunks.now sessions.now
+        ≡ unless_silent wants (move_of plan chunks.now sessions.now) }
     ensures kept { result.change ≡ plan.change }
 {
     if wants {
@@ -58,7 +59,8 @@ fn served_by(
     asked: Result<Request, Unserved>,
 ) -> Result<Served, AllocError>
     requires { IsSafe (state_of base.now chunks.now sessions.now) }
-    ensures moved { IfOk result (λ s. move_of s.plan chunks.now sessions.now ≡ served (state_of base.now chunks.now sessions.now) conn bytes.now asked) }
+    ensures moved { IfOk result (λ s. move_of s.plan chunks.now sessions.now
+        ≡ served (state_of base.now chunks.now sessions.now) conn bytes.now asked) }
     ensures fits { IfOk result (λ s. FitsIn (length sessions.now) s.plan.change) }
     ensures closed { IfOk result (λ s. s.closed ≡ closed_by asked) }
     ensures memory { IfOk result (λ s. asked ≢ Err Memory) }
@@ -89,7 +91,8 @@ fn served_by(
     }
 }
 
-/// What a client's message asks for. While a request of its connection is unanswered, no other is taken.
+/// What a client's message asks for. While a request of its connection is unanswered, no other is
+/// taken.
 fn client(
     alloc: Global,
     base: &Base,
@@ -99,9 +102,11 @@ fn client(
     bytes: &[u8],
 ) -> Result<Served, AllocError>
     requires { IsSafe (state_of base.now chunks.now sessions.now) }
-    ensures moved { IfOk result (λ s. move_of s.plan chunks.now sessions.now ≡ client (state_of base.now chunks.now sessions.now) conn bytes.now) }
+    ensures moved { IfOk result (λ s. move_of s.plan chunks.now sessions.now
+        ≡ client (state_of base.now chunks.now sessions.now) conn bytes.now) }
     ensures fits { IfOk result (λ s. FitsIn (length sessions.now) s.plan.change) }
-    ensures closed { IfOk result (λ s. s.closed ≡ closed_at (state_of base.now chunks.now sessions.now) (Client conn bytes.now)) }
+    ensures closed { IfOk result (λ s. s.closed
+        ≡ closed_at (state_of base.now chunks.now sessions.now) (Client conn bytes.now)) }
 {
     if is_waiting(conn, sessions) {
         return Ok(Served {
@@ -117,7 +122,8 @@ fn client(
     })
 }
 
-/// What a message of a shard does: each session that waits for it takes it, and no other message is a matter of a router.
+/// What a message of a shard does: each session that waits for it takes it, and no other message is
+/// a matter of a router.
 fn delivered(
     alloc: Global,
     base: &Base,
@@ -128,7 +134,8 @@ fn delivered(
 ) -> Result<Plan, AllocError>
     requires safe { IsSafe (state_of base.now chunks.now sessions.now) }
     requires is { what.now ≡ Deliver envelope.now }
-    ensures moved { IfOk result (λ p. move_of p chunks.now sessions.now ≡ delivered (state_of base.now chunks.now sessions.now) envelope.now.msg) }
+    ensures moved { IfOk result (λ p. move_of p chunks.now sessions.now
+        ≡ delivered (state_of base.now chunks.now sessions.now) envelope.now.msg) }
     ensures fits { IfOk result (λ p. FitsIn (length sessions.now) p.change) }
 {
     match &envelope.msg {
@@ -164,9 +171,11 @@ pub fn planned(
     what: &Happening,
 ) -> Result<Served, AllocError>
     requires { IsSafe (state_of base.now chunks.now sessions.now) }
-    ensures moved { IfOk result (λ s. move_of s.plan chunks.now sessions.now ≡ happened (state_of base.now chunks.now sessions.now) what.now) }
+    ensures moved { IfOk result (λ s. move_of s.plan chunks.now sessions.now
+        ≡ happened (state_of base.now chunks.now sessions.now) what.now) }
     ensures fits { IfOk result (λ s. FitsIn (length sessions.now) s.plan.change) }
-    ensures closed { IfOk result (λ s. s.closed ≡ closed_at (state_of base.now chunks.now sessions.now) what.now) }
+    ensures closed { IfOk result
+        (λ s. s.closed ≡ closed_at (state_of base.now chunks.now sessions.now) what.now) }
 {
     let plan = match what {
         Happening::Client { conn, frame } => {

@@ -72,7 +72,8 @@ fn begun_at(
 /// The router's numbers behind the choice of what is read at.
 fn drawn(base: &Base, chunks: &ChunkMap, sessions: &[(Lsid, Session)], read_at: Ts) -> Base
     requires { base.now.serial < 2 ^ 63 - 1 }
-    ensures { state_of result chunks.now sessions.now ≡ drawn (state_of base.now chunks.now sessions.now) read_at }
+    ensures { state_of result chunks.now sessions.now
+        ≡ drawn (state_of base.now chunks.now sessions.now) read_at }
 {
     let mut drawn = timed(base, chunks, sessions, read_at);
     drawn.serial = base.serial + 1;
@@ -93,7 +94,9 @@ fn begins_at(
     read_at: Ts,
 ) -> Result<Plan, AllocError>
     requires { base.now.serial < 2 ^ 63 - 1 }
-    ensures moved { IfOk result (λ p. move_of p chunks.now sessions.now ≡ begins_at (state_of base.now chunks.now sessions.now) lsid (option_copied session.entry) number asker op.now read_at) }
+    ensures moved { IfOk result (λ p. move_of p chunks.now sessions.now
+        ≡ begins_at (state_of base.now chunks.now sessions.now) lsid (option_copied session.entry)
+        number asker op.now read_at) }
     ensures fits { IfOk result (λ p. FitsIn (length sessions.now) p.change) }
 {
     let t = begun_at(alloc, base, chunks, sessions, read_at);
@@ -117,7 +120,8 @@ fn begins(
     at: Option<Ts>,
 ) -> Result<Plan, AllocError>
     requires { base.now.serial < 2 ^ 63 - 1 }
-    ensures moved { IfOk result (λ p. move_of p chunks.now sessions.now ≡ begins (state_of base.now chunks.now sessions.now) lsid (option_copied session.entry) number asker op.now at) }
+    ensures moved { IfOk result (λ p. move_of p chunks.now sessions.now ≡ begins (state_of base.now
+        chunks.now sessions.now) lsid (option_copied session.entry) number asker op.now at) }
     ensures fits { IfOk result (λ p. FitsIn (length sessions.now) p.change) }
 {
     let shards = chunks.shards_of(alloc, op)?;
@@ -139,7 +143,8 @@ fn statement_in(
     op: &Op,
     at: Option<Ts>,
 ) -> Result<Plan, AllocError>
-    ensures moved { IfOk result (λ p. move_of p chunks.now sessions.now ≡ statement_in (state_of base.now chunks.now sessions.now) asker txn (entry_of txn.lsid sessions.now) op.now at) }
+    ensures moved { IfOk result (λ p. move_of p chunks.now sessions.now ≡ statement_in (state_of
+        base.now chunks.now sessions.now) asker txn (entry_of txn.lsid sessions.now) op.now at) }
     ensures fits { IfOk result (λ p. FitsIn (length sessions.now) p.change) }
 {
     let session = entry_of(&txn.lsid, sessions);
@@ -181,7 +186,8 @@ fn plain_statement(
     at: Option<Ts>,
 ) -> Result<Plan, AllocError>
     requires { IsSafe (state_of base.now chunks.now sessions.now) }
-    ensures moved { IfOk result (λ p. move_of p chunks.now sessions.now ≡ statement (state_of base.now chunks.now sessions.now) asker None op.now at) }
+    ensures moved { IfOk result (λ p. move_of p chunks.now sessions.now
+        ≡ statement (state_of base.now chunks.now sessions.now) asker None op.now at) }
     ensures fits { IfOk result (λ p. FitsIn (length sessions.now) p.change) }
 {
     let lsid = Lsid::Own {
@@ -212,7 +218,8 @@ pub fn statement(
     at: Option<Ts>,
 ) -> Result<Plan, AllocError>
     requires { IsSafe (state_of base.now chunks.now sessions.now) }
-    ensures moved { IfOk result (λ p. move_of p chunks.now sessions.now ≡ statement (state_of base.now chunks.now sessions.now) asker txn op.now at) }
+    ensures moved { IfOk result (λ p. move_of p chunks.now sessions.now
+        ≡ statement (state_of base.now chunks.now sessions.now) asker txn op.now at) }
     ensures fits { IfOk result (λ p. FitsIn (length sessions.now) p.change) }
 {
     match txn {

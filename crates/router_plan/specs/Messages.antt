@@ -1,5 +1,5 @@
--- What the bytes of a client's message ask. Which faults close a connection is this project's choice, as are the numbers of
--- faults.
+-- What the bytes of a client's message ask. Which faults close a connection is this project's
+-- choice, as are the numbers of faults.
 use Rattle.std.specs.Prelude.{ℕ, Bool, true, false, List, Result, Ok, Err}
 use Rattle.outcomes.specs.Outcome as outcome
 use Rattle.bson_core.specs.declared.error.BsonErr.TheVariants as document
@@ -16,7 +16,8 @@ use Rattle.client_reply.specs.declared.reply.Refusal.TheVariants as refusal
 use Rattle.router_plan.specs.declared.message.Unserved.{Unserved}
 use Rattle.router_plan.specs.declared.message.Unserved.TheVariants.{Told, Closed, Memory}
 
--- bytes of a wrong length, and of another operation, close their connection; of every other fault their sender is told
+-- bytes of a wrong length, and of another operation, close their connection; of every other fault
+-- their sender is told
 abbrev pub from_message : FrameErr → Unserved
 from_message fault.Length = Closed 1
 from_message fault.OpCode = Closed 2

@@ -1,4 +1,5 @@
--- A router's state by its parts: its numbers, its map and its sessions; and what a step changes of them.
+-- A router's state by its parts: its numbers, its map and its sessions; and what a step changes of
+-- them.
 use Rattle.std.specs.Prelude.{ℕ, ◌<◌, Bool, List, [], ◌∷◌, slice_set}
 use Rattle.txn_types.specs.BySession.{BySession, with_entry}
 use Rattle.txn_types.specs.declared.node.Lsid.{Lsid}
@@ -15,7 +16,15 @@ use Rattle.router_plan.specs.declared.plan.Plan.{Plan}
 
 abbrev pub state_of : Base → Map → BySession Session → RouterState
 state_of base chunks sessions =
-    record { number = base.number; boot = base.boot; chunks = chunks; wall = base.wall; time = base.time; serial = base.serial; sessions = sessions }
+    record {
+      number = base.number;
+      boot = base.boot;
+      chunks = chunks;
+      wall = base.wall;
+      time = base.time;
+      serial = base.serial;
+      sessions = sessions;
+    }
 
 -- with these in place of what stands at those places
 abbrev pub replaced : List (ℕ × (Lsid × Session)) → BySession Session → BySession Session
@@ -38,9 +47,14 @@ changed (Places entries) sessions = replaced entries.items sessions
 changed (All all) sessions = all
 
 abbrev pub move_of : Plan → Map → BySession Session → Move
-move_of plan chunks sessions = record { state = state_of plan.base chunks (changed plan.change sessions); given = plan.given }
+move_of plan chunks sessions =
+    record { state = state_of plan.base chunks (changed plan.change sessions); given = plan.given }
 
 -- the request is answered besides, in the older form of messages or not
 abbrev pub told_also : Move → Asker → Bool → Reply → Move
 told_also move asker legacy r =
-    record { state = move.state; given = both move.given (telling (record { conn = asker.conn; request = asker.request; legacy = legacy; reply = r } ∷ [])) }
+    record {
+      state = move.state;
+      given = both move.given (telling
+          (record { conn = asker.conn; request = asker.request; legacy = legacy; reply = r } ∷ []));
+    }

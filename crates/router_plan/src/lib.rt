@@ -1,5 +1,5 @@
-//! What a router's step is made of: what a client's message asks, why a request is refused, the router's times, what a step
-//! is to change, and how that which it gives out is spelled.
+//! What a router's step is made of: what a client's message asks, why a request is refused, the
+//! router's times, what a step is to change, and how that which it gives out is spelled.
 #![tactic(auto)]
 
 mod change;

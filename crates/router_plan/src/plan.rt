@@ -13,7 +13,8 @@ use sqlite_items::Items;
 use std::alloc::{AllocError, Global};
 use txn_types::{Lsid, Ts};
 
-/// What a router counts: its number and boot, the greatest wall and time that it has met, and the serial that it drew last.
+/// What a router counts: its number and boot, the greatest wall and time that it has met, and the
+/// serial that it drew last.
 #[derive(Clone, Copy)]
 pub struct Base {
     pub number: u16,
@@ -47,7 +48,8 @@ pub struct Plan {
 
 /// Nothing changes in the sessions, and nothing is given out.
 pub fn still(alloc: Global, base: &Base) -> Plan
-    ensures moved { (chunks : Map) (sessions : BySession Session) → move_of result chunks sessions ≡ still (state_of base.now chunks sessions) }
+    ensures moved { (chunks : Map) (sessions : BySession Session)
+        → move_of result chunks sessions ≡ still (state_of base.now chunks sessions) }
     ensures fits { (n : ℕ) → FitsIn n result.change }
 {
     Plan {
@@ -59,7 +61,8 @@ pub fn still(alloc: Global, base: &Base) -> Plan
 
 /// The request is answered, and nothing changes in the sessions.
 pub fn answers(alloc: Global, base: &Base, asker: Asker, reply: Reply) -> Result<Plan, AllocError>
-    ensures moved { (chunks : Map) (sessions : BySession Session) → IfOk result (λ p. move_of p chunks sessions ≡ answers (state_of base.now chunks sessions) asker reply) }
+    ensures moved { (chunks : Map) (sessions : BySession Session) → IfOk result (λ p.
+        move_of p chunks sessions ≡ answers (state_of base.now chunks sessions) asker reply) }
     ensures fits { (n : ℕ) → IfOk result (λ p. FitsIn n p.change) }
 {
     Ok(Plan {
@@ -71,7 +74,8 @@ pub fn answers(alloc: Global, base: &Base, asker: Asker, reply: Reply) -> Result
 
 /// What is done in a session.
 pub fn done_in(base: &Base, lsid: Lsid, deed: Deed) -> Plan
-    ensures moved { (chunks : Map) (sessions : BySession Session) → move_of result chunks sessions ≡ done_in (state_of base.now chunks sessions) lsid deed }
+    ensures moved { (chunks : Map) (sessions : BySession Session)
+        → move_of result chunks sessions ≡ done_in (state_of base.now chunks sessions) lsid deed }
     ensures fits { (n : ℕ) → FitsIn n result.change }
 {
     Plan {
@@ -89,7 +93,8 @@ pub fn told_also(
     legacy: bool,
     reply: Reply,
 ) -> Result<Plan, AllocError>
-    ensures moved { (chunks : Map) (sessions : BySession Session) → IfOk result (λ p. move_of p chunks sessions ≡ told_also (move_of plan chunks sessions) asker legacy reply) }
+    ensures moved { (chunks : Map) (sessions : BySession Session) → IfOk result (λ p.
+        move_of p chunks sessions ≡ told_also (move_of plan chunks sessions) asker legacy reply) }
     ensures kept { IfOk result (λ p. p.change ≡ plan.change) }
 {
     let mut replies = Items::new(alloc);

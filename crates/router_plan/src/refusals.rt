@@ -199,7 +199,8 @@ fn known_aborted(session: Option<&Session>, number: i64) -> Option<Reply>
     }
 }
 
-/// Why a statement is refused; a command by itself is the start of its connection's next transaction.
+/// Why a statement is refused; a command by itself is the start of its connection's next
+/// transaction.
 #[tactic(auto, unfolding(crate::specs::Refusals::statement_refusal))]
 pub fn statement_refusal(
     alloc: Global,
@@ -211,7 +212,8 @@ pub fn statement_refusal(
     txn: Txn,
     op: &Op,
 ) -> Result<Option<Reply>, AllocError>
-    ensures { IfOk result (λ r. r ≡ statement_refusal (state_of base.now chunks.now sessions.now) conn (option_copied session.entry) txn op.now) }
+    ensures { IfOk result (λ r. r ≡ statement_refusal (state_of base.now chunks.now sessions.now)
+        conn (option_copied session.entry) txn op.now) }
 {
     if let Some(reply) = too_old(session, txn.number) {
         return Ok(Some(reply));
@@ -253,7 +255,8 @@ pub fn commit_refusal(
     txn: Txn,
     token: Option<Token>,
 ) -> Option<Reply>
-    ensures { (base : Base) → result ≡ commit_refusal (state_of base chunks.now sessions.now) conn (option_copied session.entry) txn token }
+    ensures { (base : Base) → result ≡ commit_refusal (state_of base chunks.now sessions.now) conn
+        (option_copied session.entry) txn token }
 {
     if let Some(reply) = too_old(session, txn.number) {
         return Some(reply);
@@ -296,8 +299,8 @@ pub fn abort_refusal(conn: u32, session: Option<&Session>, txn: Txn) -> Option<R
     after_commit(session, txn.number)
 }
 
-/// Why a command by itself is refused. It begins the next transaction of its connection's own session, so that only these
-/// can come.
+/// Why a command by itself is refused. It begins the next transaction of its connection's own
+/// session, so that only these can come.
 pub fn plain_refusal(
     alloc: Global,
     base: &Base,
@@ -307,7 +310,8 @@ pub fn plain_refusal(
     session: Option<&Session>,
     op: &Op,
 ) -> Result<Option<Reply>, AllocError>
-    ensures { IfOk result (λ r. r ≡ plain_refusal (state_of base.now chunks.now sessions.now) conn (option_copied session.entry) op.now) }
+    ensures { IfOk result (λ r. r ≡ plain_refusal (state_of base.now chunks.now sessions.now) conn
+        (option_copied session.entry) op.now) }
 {
     if let Some(reply) = busy(session, conn) {
         return Ok(Some(reply));

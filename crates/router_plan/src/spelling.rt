@@ -22,7 +22,8 @@ fn push_sent(
     posts: &[(u16, Msg)],
     out: &mut Envelopes,
 ) -> Result<(), AllocError>
-    ensures { OnOk result (out.new ≡ out.old ++ all_sent_by (Router router) time (map letter_of posts.now)) }
+    ensures { OnOk result
+        (out.new ≡ out.old ++ all_sent_by (Router router) time (map letter_of posts.now)) }
 {
     for (shard, msg) in posts {
         out.push(Envelope {
@@ -43,7 +44,8 @@ pub fn envelopes(
     aborts: &[(u16, Msg)],
     sends: &[(u16, Msg)],
 ) -> Result<Envelopes, AllocError>
-    ensures { IfOk result (λ e. e ≡ all_sent_by (Router router) time (map letter_of (aborts.now ++ sends.now))) }
+    ensures { IfOk result
+        (λ e. e ≡ all_sent_by (Router router) time (map letter_of (aborts.now ++ sends.now))) }
 {
     let mut out = Items::new(alloc);
     push_sent(alloc, router, time, aborts, &mut out)?;
@@ -51,7 +53,8 @@ pub fn envelopes(
     Ok(out)
 }
 
-/// The bytes of a reply, at the router's time behind the step. A reply of more than 400,000,000 bytes finds no memory.
+/// The bytes of a reply, at the router's time behind the step. A reply of more than 400,000,000
+/// bytes finds no memory.
 fn spelled(alloc: Global, time: Ts, sent: &Sent) -> Result<Bytes, AllocError>
     requires { FitsReply sent.now.reply }
     ensures { IfOk result (λ b. (sent.now.conn, b) ≡ spelled time sent.now) }

@@ -11,7 +11,8 @@ use txn_types::Ts;
 
 /// With the wall that an event names.
 pub fn walled(base: &Base, wall: u32) -> Base
-    ensures { (chunks : Map) (sessions : BySession Session) → state_of result chunks sessions ≡ walled (state_of base.now chunks sessions) wall }
+    ensures { (chunks : Map) (sessions : BySession Session)
+        → state_of result chunks sessions ≡ walled (state_of base.now chunks sessions) wall }
 {
     let mut base = base.copy();
     base.wall = base.wall.max(wall);
@@ -20,7 +21,8 @@ pub fn walled(base: &Base, wall: u32) -> Base
 
 /// With a time that was told.
 pub fn timed(base: &Base, time: Ts) -> Base
-    ensures { (chunks : Map) (sessions : BySession Session) → state_of result chunks sessions ≡ timed (state_of base.now chunks sessions) time }
+    ensures { (chunks : Map) (sessions : BySession Session)
+        → state_of result chunks sessions ≡ timed (state_of base.now chunks sessions) time }
 {
     let mut base = base.copy();
     base.time = Ts(base.time.0.max(time.0));
@@ -39,17 +41,19 @@ fn later(time: Ts, other: Option<Ts>) -> Ts
 
 /// With the times that a request names.
 pub fn met(base: &Base, time: Option<Ts>, after: Option<Ts>) -> Base
-    ensures { (chunks : Map) (sessions : BySession Session) → state_of result chunks sessions ≡ met (state_of base.now chunks sessions) time after }
+    ensures { (chunks : Map) (sessions : BySession Session)
+        → state_of result chunks sessions ≡ met (state_of base.now chunks sessions) time after }
 {
     let mut base = base.copy();
     base.time = later(later(base.time, time), after);
     base
 }
 
-/// What a transaction reads at: the time that its first statement names, or else the greatest of the router's time, of its
-/// wall and of 1.
+/// What a transaction reads at: the time that its first statement names, or else the greatest of
+/// the router's time, of its wall and of 1.
 fn chosen(base: &Base, at: &Option<Ts>) -> Ts
-    ensures { (chunks : Map) (sessions : BySession Session) → result ≡ chosen (state_of base.now chunks sessions) at.now }
+    ensures { (chunks : Map) (sessions : BySession Session)
+        → result ≡ chosen (state_of base.now chunks sessions) at.now }
 {
     match at {
         Some(at) => *at,
@@ -69,7 +73,8 @@ fn is_left(plain: bool, shards: &[u16], at: &Option<Ts>) -> bool
 
 /// What a transaction reads at, 0 where its shard is to choose.
 pub fn read_time(base: &Base, plain: bool, shards: &[u16], at: Option<Ts>) -> Ts
-    ensures { (chunks : Map) (sessions : BySession Session) → result ≡ read_time (state_of base.now chunks sessions) plain shards.now at }
+    ensures { (chunks : Map) (sessions : BySession Session)
+        → result ≡ read_time (state_of base.now chunks sessions) plain shards.now at }
 {
     if is_left(plain, shards, &at) {
         Ts(0)

@@ -12,8 +12,10 @@ use sqlite_items::Items;
 use std::alloc::{AllocError, Global};
 use txn_types::{Envelopes, Replies};
 
-/// What a step gives out: messages to shards, and replies to requests, as values (`told`) and as the bytes that spell these.
-/// `closed` is the number of the refusal that closes the event's connection: 1 Length, 2 OpCode, 8 TooLarge.
+/// What a step gives out: messages to shards, and replies to requests, as values (`told`) and as
+/// the bytes that spell these.
+/// `closed` is the number of the refusal that closes the event's connection: 1 Length, 2 OpCode, 8
+/// TooLarge.
 #[derive(Drop)]
 pub struct Turn {
     pub out: Envelopes,
@@ -30,7 +32,8 @@ pub fn turn_of(
     closed: Option<u8>,
 ) -> Result<Turn, AllocError>
     requires { AllFit given.replies }
-    ensures out { IfOk result (λ t. t.out ≡ all_sent_by (Router base.now.number) base.now.time (map letter_of (given.aborts ++ given.sends))) }
+    ensures out { IfOk result (λ t. t.out ≡ all_sent_by (Router base.now.number) base.now.time
+        (map letter_of (given.aborts ++ given.sends))) }
     ensures told { IfOk result (λ t. t.told ≡ given.replies) }
     ensures replies { IfOk result (λ t. t.replies ≡ map (spelled base.now.time) given.replies) }
     ensures closed { IfOk result (λ t. t.closed ≡ closed) }

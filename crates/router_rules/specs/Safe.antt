@@ -1,7 +1,8 @@
--- What holds of a router's sessions, so that its numbers fit into messages: a connection's own number is no more than the
--- serials that were drawn, the shards that have written are different ones below 65,535, and what is told of a command by
--- itself can be spelled.
-use Rattle.std.specs.Prelude.{◌≡◌, ◌<◌, ◌≤ℤ◌, ℕ, ℤ, pos, true, List, [], ◌∷◌, Option, Some, None, nat_eq}
+-- What holds of a router's sessions, so that its numbers fit into messages: a connection's own
+-- number is no more than the serials that were drawn, the shards that have written are different
+-- ones below 65,535, and what is told of a command by itself can be spelled.
+use Rattle.std.specs.Prelude.{◌≡◌, ◌<◌, ◌≤ℤ◌, ℕ, ℤ, pos, true, List, [], ◌∷◌, Option, Some, None}
+use Rattle.std.specs.Prelude.{nat_eq}
 use Rattle.std.specs.List.{IsDistinct}
 use Rattle.std.specs.Ordering.{nat_cmp}
 use Rattle.txn_types.specs.BySession.{BySession}
@@ -36,7 +37,8 @@ FitsIf (Some reply) = FitsReply reply
 
 -- the answers to a statement are of different shards, of which there are fewer than 65,535
 abbrev pub IsSafePhase : List Post → Phase → Type 0
-IsSafePhase waiting (Asking asker op answers) = KeysBelow 65535 waiting × Rises nat_cmp answers × KeysBelow 65535 answers
+IsSafePhase waiting (Asking asker op answers) = KeysBelow 65535 waiting × Rises nat_cmp answers
+    × KeysBelow 65535 answers
 IsSafePhase waiting other = Unit {0}
 
 pub record IsSafeTransaction (t : Transaction) : Type 0 where

@@ -1,6 +1,8 @@
--- How a router serves a statement: its parts are sent to the shards that it is for, all answers are waited for, and what is
--- told is one reply, or one refusal.
-use Rattle.std.specs.Prelude.{ℕ, ℤ, ◌+◌, ◌&&◌, Bool, true, false, not, List, [], ◌∷◌, ◌++◌, map, filter, filter_map, find, fold, nat_eq, Option, Some, None, option_map, is_some, Ok, Err, if◌then◌else◌}
+-- How a router serves a statement: its parts are sent to the shards that it is for, all answers are
+-- waited for, and what is told is one reply, or one refusal.
+use Rattle.std.specs.Prelude.{ℕ, ℤ, ◌+◌, ◌&&◌, Bool, true, false, not, List, [], ◌∷◌, ◌++◌, map}
+use Rattle.std.specs.Prelude.{filter, filter_map, find, fold, nat_eq, Option, Some, None}
+use Rattle.std.specs.Prelude.{option_map, is_some, Ok, Err, if◌then◌else◌}
 use Rattle.std.specs.Option.{option_or}
 use Rattle.std.specs.Ordering.{nat_cmp, is_lt}
 use Rattle.txn_types.specs.Order.{same_tag}
@@ -26,7 +28,8 @@ use Rattle.chunk_map.specs.Map.{Map}
 use Rattle.chunk_map.specs.Parts.{shards_of, part_at}
 use Rattle.router_state.specs.declared.state.Asker.{Asker}
 use Rattle.router_state.specs.declared.state.Transaction.{Transaction}
-use Rattle.router_state.specs.declared.state.Phase.TheVariants.{Idle, Asking, Checking, Deciding, Committed, Released, Aborted}
+use Rattle.router_state.specs.declared.state.Phase.TheVariants.{Idle, Asking, Checking, Deciding}
+use Rattle.router_state.specs.declared.state.Phase.TheVariants.{Committed, Released, Aborted}
 use Rattle.router_state.specs.State.{Post, boot_of, is_own, is_waited, without, token_of}
 use Rattle.router_state.specs.declared.deed.Deed.{Deed}
 use Rattle.router_state.specs.Deeds.{nothing, both, aborting, sending, telling, told, in_session}
@@ -38,17 +41,33 @@ use Rattle.router_rules.specs.Commits.{commits}
 
 -- the next statement's part for a shard
 abbrev pub statement_to : Map → Lsid → ℤ → Transaction → Op → ℕ → Post
-statement_to chunks lsid number t op shard =
-    (shard, msg.Statement (record { tag = t.tag; lsid = lsid; number = number; k = t.k + 1; read_at = t.read_at; boot = boot_of t.parts shard; op = part_at chunks op shard }))
+statement_to chunks lsid number t op shard = (
+  shard,
+  msg.Statement (record {
+    tag = t.tag;
+    lsid = lsid;
+    number = number;
+    k = t.k + 1;
+    read_at = t.read_at;
+    boot = boot_of t.parts shard;
+    op = part_at chunks op shard;
+  }),
+)
 
 -- the statement is sent to each of its shards, by rising number
 abbrev pub statements_to : Map → Lsid → ℤ → Transaction → Op → List Post
-statements_to chunks lsid number t op = map (statement_to chunks lsid number t op) (shards_of chunks op)
+statements_to chunks lsid number t op =
+    map (statement_to chunks lsid number t op) (shards_of chunks op)
 
 abbrev pub asks : Map → Lsid → ℤ → Asker → Op → Transaction → Deed
 asks chunks lsid number asker op t =
     in_session number
-    (record t { k = t.k + 1; parts = fold with_shard t.parts (shards_of chunks op); phase = Asking asker op []; waiting = statements_to chunks lsid number t op })
+    (record t {
+      k = t.k + 1;
+      parts = fold with_shard t.parts (shards_of chunks op);
+      phase = Asking asker op [];
+      waiting = statements_to chunks lsid number t op;
+    })
     (sending (statements_to chunks lsid number t op))
 
 -- What the answers tell, which stand by rising shard.
@@ -61,7 +80,8 @@ cause_in answer = elim (answer.1.outcome) [ Ok done ↦ None | Err why ↦ Some 
 
 -- the shard wrote, in this statement
 abbrev pub writer_in : ℕ × Answer → Option ℕ
-writer_in answer = elim (answer.1.outcome) [ Ok done ↦ if done.1 then Some answer.0 else None | Err why ↦ None ]
+writer_in answer =
+    elim (answer.1.outcome) [ Ok done ↦ if done.1 then Some answer.0 else None | Err why ↦ None ]
 
 -- the statement itself was refused there
 abbrev pub err_by : ℕ → Cause → Option (ℕ × OpErr)
@@ -83,7 +103,8 @@ least_err (e ∷ errs) = Some (lesser_err e (least_err errs))
 abbrev pub is_err : ℕ × Cause → Bool
 is_err refusal = is_some (err_in refusal)
 
--- The refusal that is told: that of the lowest shard whose cause isn't the statement's own, or else the least of these.
+-- The refusal that is told: that of the lowest shard whose cause isn't the statement's own, or else
+-- the least of these.
 abbrev pub winning : List (ℕ × Cause) → Option (ℕ × Cause)
 winning refusals =
     option_or
@@ -113,26 +134,38 @@ refuses lsid number asker t refusal =
 
 -- nothing more is asked of the statement, and these have written
 abbrev pub answered_by : List (ℕ × Answer) → Transaction → Transaction
-answered_by answers t = ended Idle (record t { wrote = t.wrote ++ filter (λ shard. not (has_written t shard)) (filter_map writer_in answers) })
+answered_by answers t = ended Idle (record t {
+  wrote = t.wrote ++ filter (λ shard. not (has_written t shard)) (filter_map writer_in answers);
+})
 
--- a command by itself commits before it is told; one whose answer doesn't fit is left without a commit
+-- a command by itself commits before it is told; one whose answer doesn't fit is left without a
+-- commit
 abbrev pub replies : Lsid → ℤ → Asker → Op → Transaction → OpReply → Deed
 replies lsid number asker op t r =
-    if is_own lsid && not (is_cut r) then commits lsid number (Some asker) (record t { reply = Some (reply_of op r None) })
+    if is_own lsid && not (is_cut r)
+    then commits lsid number (Some asker) (record t { reply = Some (reply_of op r None) })
     else in_session number t (telling (told asker (reply_of op r (Some (token_of t))) ∷ []))
 
-abbrev pub concludes_by : Lsid → ℤ → Asker → Op → List (ℕ × Answer) → Transaction → Option (ℕ × Cause) → Deed
-concludes_by lsid number asker op answers t None = replies lsid number asker op (answered_by answers t) (merge op (filter_map reply_in answers))
+abbrev pub concludes_by : Lsid → ℤ → Asker → Op → List (ℕ × Answer) → Transaction
+    → Option (ℕ × Cause) → Deed
+concludes_by lsid number asker op answers t None =
+    replies lsid number asker op (answered_by answers t) (merge op (filter_map reply_in answers))
 concludes_by lsid number asker op answers t (Some refusal) = refuses lsid number asker t refusal
 
 abbrev pub concludes : Lsid → ℤ → Asker → Op → List (ℕ × Answer) → Transaction → Deed
-concludes lsid number asker op answers t = concludes_by lsid number asker op answers t (winning (filter_map cause_in answers))
+concludes lsid number asker op answers t =
+    concludes_by lsid number asker op answers t (winning (filter_map cause_in answers))
 
--- An answer is taken where it is the first to the unanswered statement of a shard that this was sent to.
+-- An answer is taken where it is the first to the unanswered statement of a shard that this was
+-- sent to.
 
 abbrev pub with_answer : Asker → Op → List (ℕ × Answer) → Answer → Transaction → Transaction
 with_answer asker op answers a t =
-    record t { parts = put nat_cmp a.shard a.boot t.parts; phase = Asking asker op (put nat_cmp a.shard a answers); waiting = without a.shard t.waiting }
+    record t {
+      parts = put nat_cmp a.shard a.boot t.parts;
+      phase = Asking asker op (put nat_cmp a.shard a answers);
+      waiting = without a.shard t.waiting;
+    }
 
 abbrev pub taken_by : Lsid → ℤ → Asker → Op → List (ℕ × Answer) → Transaction → List Post → Deed
 taken_by lsid number asker op answers t [] = concludes lsid number asker op answers t
@@ -140,7 +173,8 @@ taken_by lsid number asker op answers t (post ∷ posts) = in_session number t n
 
 abbrev pub taken : Lsid → ℤ → Answer → Asker → Op → List (ℕ × Answer) → Transaction → Deed
 taken lsid number a asker op answers t =
-    taken_by lsid number asker op (put nat_cmp a.shard a answers) (with_answer asker op answers a t) (without a.shard t.waiting)
+    taken_by lsid number asker op (put nat_cmp a.shard a answers) (with_answer asker op answers a t)
+    (without a.shard t.waiting)
 
 abbrev pub answer_to : Lsid → ℤ → Answer → Transaction → Deed
 answer_to lsid number a t = elim (t.phase) [
@@ -155,4 +189,5 @@ answer_to lsid number a t = elim (t.phase) [
 
 abbrev pub on_answer : Lsid → ℤ → Answer → Transaction → Deed
 on_answer lsid number a t =
-    if same_tag t.tag a.tag && nat_eq a.k t.k && is_waited a.shard t.waiting then answer_to lsid number a t else in_session number t nothing
+    if same_tag t.tag a.tag && nat_eq a.k t.k && is_waited a.shard t.waiting
+    then answer_to lsid number a t else in_session number t nothing

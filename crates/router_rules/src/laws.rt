@@ -20,46 +20,59 @@ ghost use Rattle.router_rules.specs.Serving.{answered_in, ended_in};
 ghost use Rattle.router_rules.specs.Statements.{asks, answered_by};
 ghost use Rattle.router_rules.specs.Tokens.{seeks_by};
 
-/// A shard's answer leaves a session so that its numbers fit into messages, and what is replied can be spelled.
+/// A shard's answer leaves a session so that its numbers fit into messages, and what is replied can
+/// be spelled.
 pub fn an_answer_leaves_a_session_safe()
-    ensures { (serial : ℕ) (a : Answer) (lsid : Lsid) (session : Session) → IsSafeIn serial lsid session → IsGood serial lsid (answered_in a lsid session) }
+    ensures { (serial : ℕ) (a : Answer) (lsid : Lsid) (session : Session)
+        → IsSafeIn serial lsid session → IsGood serial lsid (answered_in a lsid session) }
 {}
 
 /// So does a shard's outcome.
 pub fn an_outcome_leaves_a_session_safe()
-    ensures { (serial : ℕ) (o : Outcome) (lsid : Lsid) (session : Session) → IsSafeIn serial lsid session → IsGood serial lsid (ended_in o lsid session) }
+    ensures { (serial : ℕ) (o : Outcome) (lsid : Lsid) (session : Session)
+        → IsSafeIn serial lsid session → IsGood serial lsid (ended_in o lsid session) }
 {}
 
 /// So does the end of the session.
 pub fn an_end_leaves_a_session_safe()
-    ensures { (serial : ℕ) (lsid : Lsid) (session : Session) → IsSafeIn serial lsid session → IsGood serial lsid (ends_session lsid session) }
+    ensures { (serial : ℕ) (lsid : Lsid) (session : Session) → IsSafeIn serial lsid session
+        → IsGood serial lsid (ends_session lsid session) }
 {}
 
 /// So does the end of a connection.
 pub fn a_lost_connection_leaves_a_session_safe()
-    ensures { (serial conn : ℕ) (lsid : Lsid) (session : Session) → IsSafeIn serial lsid session → IsGood serial lsid (gone_from conn lsid session) }
+    ensures { (serial conn : ℕ) (lsid : Lsid) (session : Session) → IsSafeIn serial lsid session
+        → IsGood serial lsid (gone_from conn lsid session) }
 {}
 
 /// So does a statement that is sent.
 pub fn a_statement_leaves_its_session_safe()
-    ensures { (serial : ℕ) (lsid : Lsid) (number : ℤ) → IsDrawn serial lsid number → (chunks : Map) (asker : Asker) (op : Op) (t : Transaction) → IsMap chunks → chunks.shards ≤ 65535 → IsSafeTransaction t
+    ensures { (serial : ℕ) (lsid : Lsid) (number : ℤ) → IsDrawn serial lsid number
+        → (chunks : Map) (asker : Asker) (op : Op) (t : Transaction) → IsMap chunks
+        → chunks.shards ≤ 65535 → IsSafeTransaction t
         → IsGood serial lsid (asks chunks lsid number asker op t) }
 {}
 
 /// So does a request to commit.
 pub fn a_commit_leaves_its_session_safe()
-    ensures { (serial : ℕ) (lsid : Lsid) (number : ℤ) → IsDrawn serial lsid number → (asker : Asker) (t : Transaction) → IsSafeTransaction t → IsGood serial lsid (commit_asked lsid number asker t) }
+    ensures { (serial : ℕ) (lsid : Lsid) (number : ℤ) → IsDrawn serial lsid number
+        → (asker : Asker) (t : Transaction) → IsSafeTransaction t
+        → IsGood serial lsid (commit_asked lsid number asker t) }
 {}
 
 /// So does a request to commit by a token.
 pub fn a_commit_by_a_token_leaves_its_session_safe()
-    ensures { (serial : ℕ) (lsid : Lsid) (number : ℤ) → IsDrawn serial lsid number → (asker : Asker) (k : Seeking) (session : Option Session) → ((s : Session) → session ≡ Some s → IsSafeIn serial lsid s)
+    ensures { (serial : ℕ) (lsid : Lsid) (number : ℤ) → IsDrawn serial lsid number
+        → (asker : Asker) (k : Seeking) (session : Option Session)
+        → ((s : Session) → session ≡ Some s → IsSafeIn serial lsid s)
         → IsGood serial lsid (seeks_by lsid number asker k session) }
 {}
 
 /// So does a request to abort.
 pub fn an_abort_leaves_its_session_safe()
-    ensures { (serial : ℕ) (lsid : Lsid) (number : ℤ) → IsDrawn serial lsid number → (asker : Asker) (t : Transaction) → IsSafeTransaction t → IsGood serial lsid (client_aborts lsid number asker t) }
+    ensures { (serial : ℕ) (lsid : Lsid) (number : ℤ) → IsDrawn serial lsid number
+        → (asker : Asker) (t : Transaction) → IsSafeTransaction t
+        → IsGood serial lsid (client_aborts lsid number asker t) }
 {}
 
 /// The shards that wrote can be listed in one message to their coordinator.
@@ -69,6 +82,8 @@ pub fn few_shards_write()
 
 /// And so can they behind an answer that is waited for.
 pub fn few_shards_write_behind_an_answer()
-    ensures { (a : Answer) (t : Transaction) (asker : Asker) (op : Op) (answers : List (ℕ × Answer)) → IsSafeTransaction t → t.phase ≡ Asking asker op answers → is_waited a.shard t.waiting ≡ true
+    ensures { (a : Answer) (t : Transaction) (asker : Asker) (op : Op) (answers : List (ℕ × Answer))
+        → IsSafeTransaction t → t.phase ≡ Asking asker op answers
+        → is_waited a.shard t.waiting ≡ true
         → length (answered_by (put nat_cmp a.shard a answers) t).wrote ≤ 65535 }
 {}

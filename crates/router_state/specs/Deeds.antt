@@ -17,7 +17,11 @@ abbrev pub nothing : Given
 nothing = record { aborts = []; sends = []; replies = [] }
 
 abbrev pub both : Given → Given → Given
-both a b = record { aborts = a.aborts ++ b.aborts; sends = a.sends ++ b.sends; replies = a.replies ++ b.replies }
+both a b = record {
+  aborts = a.aborts ++ b.aborts;
+  sends = a.sends ++ b.sends;
+  replies = a.replies ++ b.replies;
+}
 
 abbrev pub aborting : List Post → Given
 aborting posts = record { aborts = posts; sends = []; replies = [] }
@@ -30,7 +34,8 @@ telling replies = record { aborts = []; sends = []; replies = replies }
 
 -- told to whoever waits
 abbrev pub told : Asker → Reply → Sent
-told asker reply = record { conn = asker.conn; request = asker.request; legacy = false; reply = reply }
+told asker reply =
+    record { conn = asker.conn; request = asker.request; legacy = false; reply = reply }
 
 abbrev pub told_if : Option Asker → Reply → List Sent
 told_if None reply = []
@@ -41,7 +46,8 @@ stays session = record { session = session; given = nothing }
 
 -- the session's transaction is this
 abbrev pub in_session : ℤ → Transaction → Given → Deed
-in_session number t given = record { session = record { number = number; doing = Begun t }; given = given }
+in_session number t given =
+    record { session = record { number = number; doing = Begun t }; given = given }
 
 -- the router behind an event, and what is given out
 pub record Move : Type 0 where
@@ -64,8 +70,13 @@ done_in s lsid deed = record { state = with_session s lsid deed.session; given =
 -- what an event does in each session, one after the other
 abbrev pub each_session : (Lsid → Session → Deed) → BySession Session → BySession Session × Given
 each_session act [] = ([], nothing)
-each_session act (entry ∷ entries) =
-    ((entry.0, (act entry.0 entry.1).session) ∷ (each_session act entries).0, both (act entry.0 entry.1).given (each_session act entries).1)
+each_session act (entry ∷ entries) = (
+  (entry.0, (act entry.0 entry.1).session) ∷ (each_session act entries).0,
+  both (act entry.0 entry.1).given (each_session act entries).1,
+)
 
 abbrev pub in_each_session : (Lsid → Session → Deed) → RouterState → Move
-in_each_session act s = record { state = record s { sessions = (each_session act s.sessions).0 }; given = (each_session act s.sessions).1 }
+in_each_session act s = record {
+  state = record s { sessions = (each_session act s.sessions).0 };
+  given = (each_session act s.sessions).1;
+}

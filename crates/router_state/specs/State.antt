@@ -1,7 +1,8 @@
--- The state of a router. A session has its newest transaction: one that was begun here, or one whose decision is looked for
--- by a token. A transaction of several statements and a command by itself are served alike; the latter is the next
--- transaction of its connection's own session.
-use Rattle.std.specs.Prelude.{ℕ, Bool, true, false, List, [], ◌∷◌, filter, nat_eq, Option, Some, None, not, option_and_then, unwrap_or, option_map}
+-- The state of a router. A session has its newest transaction: one that was begun here, or one
+-- whose decision is looked for by a token. A transaction of several statements and a command by
+-- itself are served alike; the latter is the next transaction of its connection's own session.
+use Rattle.std.specs.Prelude.{ℕ, Bool, true, false, List, [], ◌∷◌, filter, nat_eq, Option, Some}
+use Rattle.std.specs.Prelude.{None, not, option_and_then, unwrap_or, option_map}
 use Rattle.std.specs.List.{list_any, find}
 use Rattle.txn_types.specs.BySession.{BySession, entry_of}
 use Rattle.txn_types.specs.declared.decision.Token.{Token}
@@ -12,7 +13,8 @@ use Rattle.txn_types.specs.declared.node.Lsid.TheVariants.{Client, Own}
 use Rattle.chunk_map.specs.Map.{Map}
 use Rattle.router_state.specs.declared.state.Asker.{Asker}
 use Rattle.router_state.specs.declared.state.Phase.{Phase}
-use Rattle.router_state.specs.declared.state.Phase.TheVariants.{Idle, Asking, Checking, Deciding, Committed, Released, Aborted}
+use Rattle.router_state.specs.declared.state.Phase.TheVariants.{Idle, Asking, Checking, Deciding}
+use Rattle.router_state.specs.declared.state.Phase.TheVariants.{Committed, Released, Aborted}
 use Rattle.router_state.specs.declared.state.Transaction.{Transaction}
 use Rattle.router_state.specs.declared.state.Doing.{Doing}
 use Rattle.router_state.specs.declared.state.Doing.TheVariants.{Begun, Sought}
@@ -33,7 +35,15 @@ pub record RouterState : Type 0 where
 
 -- a router that has started
 abbrev pub fresh_router : ℕ → ℕ → Map → RouterState
-fresh_router number boot chunks = record { number = number; boot = boot; chunks = chunks; wall = 0; time = 0; serial = 0; sessions = [] }
+fresh_router number boot chunks = record {
+  number = number;
+  boot = boot;
+  chunks = chunks;
+  wall = 0;
+  time = 0;
+  serial = 0;
+  sessions = [];
+}
 
 abbrev pub session_of : RouterState → Lsid → Option Session
 session_of s lsid = entry_of lsid s.sessions
@@ -91,7 +101,8 @@ is_waiting s conn = list_any (λ entry. is_from conn (asker_of entry.1.doing)) s
 
 -- the boot that a participant told
 abbrev pub boot_of : List (ℕ × ℕ) → ℕ → ℕ
-boot_of parts shard = unwrap_or (option_map (λ part. part.1) (find (λ part. nat_eq part.0 shard) parts)) 0
+boot_of parts shard =
+    unwrap_or (option_map (λ part. part.1) (find (λ part. nat_eq part.0 shard) parts)) 0
 
 abbrev pub is_waited : ℕ → List Post → Bool
 is_waited shard posts = list_any (λ post. nat_eq post.0 shard) posts

@@ -1,4 +1,5 @@
-//! The state of a router: its sessions and their transactions, the shards that take part in these, and what an event gives out.
+//! The state of a router: its sessions and their transactions, the shards that take part in these,
+//! and what an event gives out.
 #![tactic(auto)]
 
 mod copies;

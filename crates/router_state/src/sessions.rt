@@ -10,7 +10,8 @@ use crate::state::{Session, asker_of, is_from};
 use std::cmp::Ordering;
 use txn_types::Lsid;
 
-/// Those that clients named come first, by their bytes; then those of connections, by router, boot and connection.
+/// Those that clients named come first, by their bytes; then those of connections, by router, boot
+/// and connection.
 fn lsid_cmp(a: &Lsid, b: &Lsid) -> Ordering
     ensures { result ≡ lsid_cmp a.now b.now }
 {

@@ -53,9 +53,11 @@ pub enum Phase {
     },
 }
 
-/// A transaction that was begun here. `k` counts its statements. Its participants are the shards that one was sent to.
-/// `wrote` has those that wrote, by the statement in which they first wrote and then by number. `reply` is what a command
-/// by itself is told once it is committed. `waiting` has the messages that aren't answered, by rising shard.
+/// A transaction that was begun here. `k` counts its statements. Its participants are the shards
+/// that one was sent to.
+/// `wrote` has those that wrote, by the statement in which they first wrote and then by number.
+/// `reply` is what a command by itself is told once it is committed. `waiting` has the messages
+/// that aren't answered, by rising shard.
 #[derive(Drop)]
 pub struct Transaction {
     pub tag: Tag,
@@ -82,7 +84,8 @@ pub struct Seeking {
 pub enum Doing {
     /// The one that was begun here.
     Begun(Transaction),
-    /// Those that tokens name, one of which may be looked for, and these of which are known as committed.
+    /// Those that tokens name, one of which may be looked for, and these of which are known as
+    /// committed.
     Sought {
         seeking: Option<Seeking>,
         known: Tags,

@@ -1,5 +1,6 @@
 -- The journal of a router, which has the records of its boots alone.
-use Rattle.std.specs.Prelude.{◌≡◌, ◌⊎◌, ◌≤◌, ℕ, ◌+◌, Bool, true, false, ◌&&◌, List, [], ◌∷◌, length, Option, Some, None, nat_lt, unwrap_or, if◌then◌else◌}
+use Rattle.std.specs.Prelude.{◌≡◌, ◌⊎◌, ◌≤◌, ℕ, ◌+◌, Bool, true, false, ◌&&◌, List, [], ◌∷◌, length}
+use Rattle.std.specs.Prelude.{Option, Some, None, nat_lt, unwrap_or, if◌then◌else◌}
 use Rattle.journal_rec.specs.declared.record.Rec.{Rec}
 use Rattle.journal_rec.specs.declared.record.Rec.TheVariants as rec
 use Rattle.record_store.specs.Found.{FoundIn, HasBadBytes, HasBadRecord}
@@ -22,7 +23,8 @@ boot_after last other = last
 -- the number of the first record that isn't a next boot
 abbrev pub first_refused_from : ℕ → Option ℕ → List Rec → Option ℕ
 first_refused_from index last [] = None
-first_refused_from index last (r ∷ recs) = if is_next last r then first_refused_from (index + 1) (boot_after last r) recs else Some index
+first_refused_from index last (r ∷ recs) = if is_next last r
+    then first_refused_from (index + 1) (boot_after last r) recs else Some index
 
 abbrev pub first_refused : List Rec → Option ℕ
 first_refused recs = first_refused_from 0 None recs
@@ -40,7 +42,8 @@ next_boot recs = last_boot recs + 1
 
 -- the record of this number is the first that isn't a next boot, or no boot is left
 abbrev pub HasBadBoots : List Rec → ℕ → Type 0
-HasBadBoots recs index = (first_refused recs ≡ Some index) ⊎ ((first_refused recs ≡ None) × (4294967294 ≤ last_boot recs) × (index ≡ length recs))
+HasBadBoots recs index = (first_refused recs ≡ Some index)
+    ⊎ ((first_refused recs ≡ None) × (4294967294 ≤ last_boot recs) × (index ≡ length recs))
 
 -- why a router doesn't start from records
 abbrev pub RefusesBoots : List Rec → NodeErr → Type 0
@@ -57,5 +60,6 @@ pub record HasOtherRecords (file : List ℕ) (index : ℕ) : Type 0 where
 -- why a router doesn't start from a file
 abbrev pub RefusesRouter : Type 0 → List ℕ → NodeErr → Type 0
 RefusesRouter told file DiskFault = Unit {0}
-RefusesRouter told file (BadJournal index) = told → HasBadBytes file index ⊎ HasBadRecord file index ⊎ HasOtherRecords file index
+RefusesRouter told file (BadJournal index) = told
+    → HasBadBytes file index ⊎ HasBadRecord file index ⊎ HasOtherRecords file index
 RefusesRouter told file Memory = Unit {0}

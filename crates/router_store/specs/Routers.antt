@@ -13,14 +13,16 @@ pub record RouterOn (L : Type 0) : Type 0 where
   pub log : L
 
 -- a router that starts behind these records, at the next boot, which is recorded
-pub record Boots (number : ℕ) (chunks : Map) (old : List Rec) (router : RouterState) (new : List Rec) : Type 0 where
+pub record Boots (number : ℕ) (chunks : Map) (old : List Rec) (router : RouterState)
+    (new : List Rec) : Type 0 where
   pub follow : first_refused old ≡ None
   pub left : last_boot old < 4294967294
   pub fresh : router ≡ fresh_router number (next_boot old) chunks
   pub records : new ≡ old ++ rec.Boot (next_boot old) ∷ []
 
 -- a router that starts behind the records of a file, where its disk tells
-pub record StartsFrom (number : ℕ) (chunks : Map) (told : Type 0) (file : List ℕ) (router : RouterState) (new : List Rec) : Type 0 where
+pub record StartsFrom (number : ℕ) (chunks : Map) (told : Type 0) (file : List ℕ)
+    (router : RouterState) (new : List Rec) : Type 0 where
   pub recs : List Rec
   pub found : FoundIn told file recs
   pub boots : Boots number chunks recs router new

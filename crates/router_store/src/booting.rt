@@ -14,7 +14,8 @@ const LAST_BOOT: u32 = 4_294_967_294;
 
 /// The boot that a record is, where it can follow the last.
 fn next(last: Option<u32>, rec: &Rec) -> Option<u32>
-    ensures some { IfSome result (λ boot. (is_next last rec.now ≡ true) × (boot_after last rec.now ≡ Some boot)) }
+    ensures some { IfSome result
+        (λ boot. (is_next last rec.now ≡ true) × (boot_after last rec.now ≡ Some boot)) }
     ensures none { IfNone result (is_next last rec.now ≡ false) }
 {
     let Rec::Boot { boot } = rec else {
@@ -31,7 +32,8 @@ fn next(last: Option<u32>, rec: &Rec) -> Option<u32>
 
 /// The last boot, 0 where there is none; or the number of the first record that isn't a next boot.
 fn last_boot(records: &[Rec]) -> Result<u32, u64>
-    ensures ok { IfOk result (λ last. (first_refused records.now ≡ None) × (last ≡ last_boot records.now)) }
+    ensures ok { IfOk result
+        (λ last. (first_refused records.now ≡ None) × (last ≡ last_boot records.now)) }
     ensures refused { IfErr result (λ index. first_refused records.now ≡ Some index) }
 {
     let mut last = None;
@@ -48,7 +50,8 @@ fn last_boot(records: &[Rec]) -> Result<u32, u64>
 fn append_boot<L: RecordLog>(alloc: Global, log: &mut L, boot: u32) -> Result<(), NodeErr>
     requires { L.is_closed log.old ≡ false }
     ensures ok { OnOk result (L.kept log.new ≡ L.kept log.old ++ rec.Boot boot ∷ []) }
-    ensures faults { FailsOnly NodeErr.DiskFault (L.fault_count log.old) (L.fault_count log.new) result }
+    ensures faults { FailsOnly NodeErr.DiskFault (L.fault_count log.old)
+        (L.fault_count log.new) result }
     ensures refused { IfErr result (RefusesBoots (L.kept log.old)) }
 {
     let Ok(mut payload) = Payload::new(alloc) else {
@@ -70,7 +73,8 @@ pub fn boot<L: RecordLog>(alloc: Global, log: &mut L) -> Result<u32, NodeErr>
     ensures boot { IfOk result (λ boot. (boot ≡ next_boot (L.kept log.old)) × (boot < 4294967295)) }
     ensures records { IfOk result (λ boot. L.kept log.new ≡ L.kept log.old ++ rec.Boot boot ∷ []) }
     ensures refused { IfErr result (RefusesBoots (L.kept log.old)) }
-    ensures faults { FailsOnly NodeErr.DiskFault (L.fault_count log.old) (L.fault_count log.new) result }
+    ensures faults { FailsOnly NodeErr.DiskFault (L.fault_count log.old)
+        (L.fault_count log.new) result }
 {
     let records = log.records();
     let count = records.len() as u64;

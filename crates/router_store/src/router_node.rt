@@ -41,8 +41,8 @@ impl<L: RecordLog> Model for RouterNode<L> {
 }
 
 impl<L: RecordLog> RouterNode<L> {
-    /// Starts the router of this number behind the records of a log, to which the record of the next boot is appended.
-    /// It sends by the map. A refusal gives the log back.
+    /// Starts the router of this number behind the records of a log, to which the record of the
+    /// next boot is appended. It sends by the map. A refusal gives the log back.
     pub fn over(
         alloc: Global,
         router: u16,
@@ -108,8 +108,8 @@ impl<L: RecordLog> Routing for RouterNode<L> {
 }
 
 impl<D: Disk> RouterNode<DiskLog<D>> {
-    /// Starts the router of this number from the journal on a disk. A refusal gives the disk back; what the start has
-    /// appended by then stays.
+    /// Starts the router of this number from the journal on a disk. A refusal gives the disk back;
+    /// what the start has appended by then stays.
     pub fn start(
         alloc: Global,
         router: u16,

@@ -1,5 +1,6 @@
-//! How a router commits a transaction. First each participant without a write is asked, and has to answer Released. Then the
-//! one that wrote commits by itself, or the first of several coordinates them all.
+//! How a router commits a transaction. First each participant without a write is asked, and has to
+//! answer Released. Then the one that wrote commits by itself, or the first of several coordinates
+//! them all.
 ghost use Rattle.std.specs.Prelude.{◌≡◌, ◌≤◌, ◌&&◌, ◌∷◌, [], length, map, unwrap_or, Some, IfOk};
 ghost use Rattle.txn_types.specs.Order.{same_tag};
 ghost use Rattle.router_state.specs.State.{is_waited};
@@ -186,8 +187,8 @@ pub fn commits(
     }
 }
 
-/// A request to commit while the decision is asked for: it is listened to, and where the answer wasn't kept the shard is
-/// asked again.
+/// A request to commit while the decision is asked for: it is listened to, and where the answer
+/// wasn't kept the shard is asked again.
 fn listens(
     alloc: Global,
     lsid: Lsid,
@@ -213,14 +214,15 @@ fn is_known_aborted(
     asker: Asker,
     t: &Transaction,
 ) -> Result<Deed, AllocError>
-    ensures { IfOk result (λ d. d ≡ in_session number t.now (telling (told_if (Some asker) (Refused Aborted)))) }
+    ensures { IfOk result
+        (λ d. d ≡ in_session number t.now (telling (told_if (Some asker) (Refused Aborted)))) }
 {
     let told = Given::telling_one(alloc, asker, Reply::Refused(Refusal::Aborted))?;
     gives(alloc, number, t, told)
 }
 
-/// A request to commit a transaction that was begun here, behind its refusals: a known end is told again; an unanswered
-/// commit is listened to; and a shard whose answer wasn't kept is asked again.
+/// A request to commit a transaction that was begun here, behind its refusals: a known end is told
+/// again; an unanswered commit is listened to; and a shard whose answer wasn't kept is asked again.
 pub fn commit_asked(
     alloc: Global,
     lsid: Lsid,
@@ -270,8 +272,8 @@ pub fn outcome_reply(
     }
 }
 
-/// A participant without a write has answered Released, and these are still waited for: the last of them begins the second
-/// step.
+/// A participant without a write has answered Released, and these are still waited for: the last of
+/// them begins the second step.
 fn released(
     alloc: Global,
     lsid: Lsid,
@@ -300,7 +302,8 @@ fn failure(
     outcome: &Outcome,
     t: &Transaction,
 ) -> Result<Given, AllocError>
-    ensures { IfOk result (λ g. g ≡ telling (told_if asker (outcome_reply outcome.now.shard number (commit_reply lsid t.now) outcome.now.told))) }
+    ensures { IfOk result (λ g. g ≡ telling (told_if asker
+        (outcome_reply outcome.now.shard number (commit_reply lsid t.now) outcome.now.told))) }
 {
     let done = commit_reply(alloc, lsid, t)?;
     let reply = outcome_reply(alloc, outcome.shard, number, done, &outcome.told)?;
@@ -348,8 +351,8 @@ fn checked(
     }
 }
 
-/// The one that wrote, or the coordinator, has answered. An answer without a decision isn't kept: the next request to commit
-/// asks again.
+/// The one that wrote, or the coordinator, has answered. An answer without a decision isn't kept:
+/// the next request to commit asks again.
 fn decided(
     alloc: Global,
     lsid: Lsid,
@@ -409,7 +412,8 @@ fn decided(
 
 /// Whether the outcome is the first of a shard that the commit asked.
 fn is_asked(outcome: &Outcome, t: &Transaction) -> bool
-    ensures { result ≡ (same_tag t.now.tag outcome.now.tag && is_waited outcome.now.shard t.now.waiting) }
+    ensures { result
+        ≡ (same_tag t.now.tag outcome.now.tag && is_waited outcome.now.shard t.now.waiting) }
 {
     same_tag(t.tag, outcome.tag) && is_waited(outcome.shard, t.waiting.as_slice())
 }
@@ -424,7 +428,8 @@ pub fn on_outcome(
     t: &Transaction,
 ) -> Result<Option<Deed>, AllocError>
     requires { IsSafeTransaction t.now }
-    ensures { IfOk result (λ d. unwrap_or d (in_session number t.now nothing) ≡ on_outcome lsid number outcome.now t.now) }
+    ensures { IfOk result (λ d. unwrap_or d (in_session number t.now nothing)
+        ≡ on_outcome lsid number outcome.now t.now) }
 {
     if !is_asked(outcome, t) {
         return Ok(None);

@@ -1,6 +1,6 @@
-//! How a router ends transactions, by an Abort to their participants for a reason that it names: 1 the client's abort, 2 the
-//! end of its session, 4 the end of the connection of its unanswered statement, 5 another participant's refusal, 6 a larger
-//! number of its session.
+//! How a router ends transactions, by an Abort to their participants for a reason that it names: 1
+//! the client's abort, 2 the end of its session, 4 the end of the connection of its unanswered
+//! statement, 5 another participant's refusal, 6 a larger number of its session.
 ghost use Rattle.std.specs.Prelude.{◌≡◌, ◌∷◌, [], unwrap_or, None, IfOk};
 ghost use Rattle.router_state.specs.State.{without, commit_sent};
 ghost use Rattle.client_reply.specs.declared.reply.Reply.TheVariants.{Ended};
@@ -110,7 +110,8 @@ fn aborts_for(
     asker: Asker,
     t: &Transaction,
 ) -> Result<Deed, AllocError>
-    ensures { IfOk result (λ d. d ≡ in_session number (aborted t.now) (both (aborting (aborts lsid number 1 t.now)) (telling (told asker (Ended None) ∷ [])))) }
+    ensures { IfOk result (λ d. d ≡ in_session number (aborted t.now)
+        (both (aborting (aborts lsid number 1 t.now)) (telling (told asker (Ended None) ∷ [])))) }
 {
     let told = Given::telling_one(alloc, asker, Reply::Ended { token: None })?;
     let posts = aborts(alloc, lsid, number, 1, t)?;
@@ -142,8 +143,8 @@ pub fn client_aborts(
     }
 }
 
-/// The end of a session: its transaction is aborted where no request waits and its commit wasn't sent. None where nothing
-/// changes.
+/// The end of a session: its transaction is aborted where no request waits and its commit wasn't
+/// sent. None where nothing changes.
 pub fn ends_session(
     alloc: Global,
     lsid: Lsid,
@@ -163,15 +164,16 @@ pub fn ends_session(
     }
 }
 
-/// The end of the connection that waits for a transaction, whichever it is. Its unanswered statement's transaction is aborted;
-/// an unanswered commit stays, and nobody waits for it.
+/// The end of the connection that waits for a transaction, whichever it is. Its unanswered
+/// statement's transaction is aborted; an unanswered commit stays, and nobody waits for it.
 fn gone_asking(
     alloc: Global,
     lsid: Lsid,
     session: &Session,
     t: &Transaction,
 ) -> Result<Option<Deed>, AllocError>
-    ensures { IfOk result (λ d. unwrap_or d (stays session.now) ≡ gone_asking 0 lsid session.now t.now) }
+    ensures { IfOk result
+        (λ d. unwrap_or d (stays session.now) ≡ gone_asking 0 lsid session.now t.now) }
 {
     let number = session.number;
     match &t.phase {

@@ -1,5 +1,5 @@
-//! Transactions at a router: how their statements are sent to shards and answered, how they are committed, also by a token,
-//! and how they are ended.
+//! Transactions at a router: how their statements are sent to shards and answered, how they are
+//! committed, also by a token, and how they are ended.
 #![tactic(auto)]
 
 mod commits;

@@ -81,7 +81,8 @@ fn least_err(errs: &[(u16, OpErr)]) -> Option<&(u16, OpErr)>
     least
 }
 
-/// The refusal that is told: that of the lowest shard whose cause isn't the statement's own, or else the least of these.
+/// The refusal that is told: that of the lowest shard whose cause isn't the statement's own, or
+/// else the least of these.
 pub fn winning(alloc: Global, refusals: &[(u16, Cause)]) -> Result<Option<(u16, Cause)>, AllocError>
     ensures { IfOk result (λ c. c ≡ winning refusals.now) }
 {

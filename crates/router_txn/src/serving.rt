@@ -19,7 +19,8 @@ pub fn answered_in(
     session: &Session,
 ) -> Result<Option<Deed>, AllocError>
     requires { IsSafeDoing session.now.doing }
-    ensures { IfOk result (λ d. unwrap_or d (stays session.now) ≡ answered_in answer.now lsid session.now) }
+    ensures { IfOk result
+        (λ d. unwrap_or d (stays session.now) ≡ answered_in answer.now lsid session.now) }
 {
     match &session.doing {
         Doing::Begun(t) => on_answer(alloc, lsid, session.number, answer, t),
@@ -35,7 +36,8 @@ pub fn ended_in(
     session: &Session,
 ) -> Result<Option<Deed>, AllocError>
     requires { IsSafeDoing session.now.doing }
-    ensures { IfOk result (λ d. unwrap_or d (stays session.now) ≡ ended_in outcome.now lsid session.now) }
+    ensures { IfOk result
+        (λ d. unwrap_or d (stays session.now) ≡ ended_in outcome.now lsid session.now) }
 {
     match &session.doing {
         Doing::Begun(t) => on_outcome(alloc, lsid, session.number, outcome, t),

@@ -1,5 +1,5 @@
-//! How a router serves a statement: its parts are sent to the shards that it is for, all answers are waited for, and what is
-//! told is one reply, or one refusal.
+//! How a router serves a statement: its parts are sent to the shards that it is for, all answers
+//! are waited for, and what is told is one reply, or one refusal.
 ghost use Rattle.std.specs.Prelude.{◌≡◌, ◌<◌, ◌≤◌, ◌&&◌, ◌+◌, [], fold, length, map, filter, filter_map, not, nat_eq, unwrap_or, Some, IfOk};
 ghost use Rattle.std.specs.Ordering.{nat_cmp};
 ghost use Rattle.txn_types.specs.Order.{same_tag};
@@ -65,7 +65,8 @@ fn statements_to(
     shards: &[u16],
 ) -> Result<Posts, AllocError>
     requires { t.now.k < 1000000 }
-    ensures { IfOk result (λ p. p ≡ map (statement_to chunks.now lsid number t.now op.now) shards.now) }
+    ensures { IfOk result
+        (λ p. p ≡ map (statement_to chunks.now lsid number t.now op.now) shards.now) }
 {
     let mut posts = Items::new(alloc);
     for shard in shards {
@@ -84,7 +85,12 @@ fn asked(
     t: &Transaction,
 ) -> Result<Transaction, AllocError>
     requires { t.now.k < 1000000 }
-    ensures { IfOk result (λ u. u ≡ record t.now { k = t.now.k + 1; parts = fold with_shard t.now.parts shards.now; phase = Asking asker op.now []; waiting = posts.now }) }
+    ensures { IfOk result (λ u. u ≡ record t.now {
+      k = t.now.k + 1;
+      parts = fold with_shard t.now.parts shards.now;
+      phase = Asking asker op.now [];
+      waiting = posts.now;
+    }) }
 {
     Ok(Transaction {
         tag: t.tag,
@@ -275,7 +281,8 @@ fn with_reply(alloc: Global, reply: Reply, t: &Transaction) -> Result<Transactio
     Ok(t)
 }
 
-/// A command by itself commits before it is told; one whose answer doesn't fit is left without a commit.
+/// A command by itself commits before it is told; one whose answer doesn't fit is left without a
+/// commit.
 fn replies(
     alloc: Global,
     lsid: Lsid,
@@ -333,7 +340,8 @@ fn concludes(
     }
 }
 
-/// The transaction with what the shard tells: its boot, and these answers, with its own among them; the others are waited for.
+/// The transaction with what the shard tells: its boot, and these answers, with its own among them;
+/// the others are waited for.
 fn with_answer(
     alloc: Global,
     answer: &Answer,
@@ -343,7 +351,11 @@ fn with_answer(
     left: &Posts,
     t: &Transaction,
 ) -> Result<Transaction, AllocError>
-    ensures { IfOk result (λ u. u ≡ record t.now { parts = put nat_cmp answer.now.shard answer.now.boot t.now.parts; phase = Asking asker op.now answers.now; waiting = left.now }) }
+    ensures { IfOk result (λ u. u ≡ record t.now {
+      parts = put nat_cmp answer.now.shard answer.now.boot t.now.parts;
+      phase = Asking asker op.now answers.now;
+      waiting = left.now;
+    }) }
 {
     let parts = put_participant(alloc, t.parts.as_slice(), answer.shard, answer.boot)?;
     let waiting = copy_posts(alloc, left)?;
@@ -357,7 +369,8 @@ fn with_answer(
     Ok(t)
 }
 
-/// The transaction has these answers, and waits for what is left: the last answer concludes the statement.
+/// The transaction has these answers, and waits for what is left: the last answer concludes the
+/// statement.
 fn taken_by(
     alloc: Global,
     lsid: Lsid,
@@ -388,7 +401,8 @@ fn taken(
     answers: &[(u16, Answer)],
     t: &Transaction,
 ) -> Result<Deed, AllocError>
-    requires { length (answered_by (put nat_cmp answer.now.shard answer.now answers.now) t.now).wrote ≤ 65535 }
+    requires { length (answered_by (put nat_cmp answer.now.shard answer.now answers.now)
+        t.now).wrote ≤ 65535 }
     ensures { IfOk result (λ d. d ≡ taken lsid number answer.now asker op.now answers.now t.now) }
 {
     let answers = put_answer(alloc, answers, answer)?;
@@ -401,12 +415,14 @@ fn taken(
 
 /// Whether the answer is to the transaction's last statement, from a shard that is waited for.
 fn is_asked(answer: &Answer, t: &Transaction) -> bool
-    ensures { result ≡ (same_tag t.now.tag answer.now.tag && nat_eq answer.now.k t.now.k && is_waited answer.now.shard t.now.waiting) }
+    ensures { result ≡ (same_tag t.now.tag answer.now.tag && nat_eq answer.now.k t.now.k
+        && is_waited answer.now.shard t.now.waiting) }
 {
     same_tag(t.tag, answer.tag) && answer.k == t.k && is_waited(answer.shard, t.waiting.as_slice())
 }
 
-/// A shard's answer to a statement, in the session of a transaction that was begun here. None where it changes nothing.
+/// A shard's answer to a statement, in the session of a transaction that was begun here. None where
+/// it changes nothing.
 #[tactic(auto, using(router_rules::proofs::Writing::taken_room, router_rules::proofs::Writing::last_of))]
 pub fn on_answer(
     alloc: Global,
@@ -416,7 +432,8 @@ pub fn on_answer(
     t: &Transaction,
 ) -> Result<Option<Deed>, AllocError>
     requires { IsSafeTransaction t.now }
-    ensures { IfOk result (λ d. unwrap_or d (in_session number t.now nothing) ≡ on_answer lsid number answer.now t.now) }
+    ensures { IfOk result (λ d. unwrap_or d (in_session number t.now nothing)
+        ≡ on_answer lsid number answer.now t.now) }
 {
     if !is_asked(answer, t) {
         return Ok(None);

@@ -1,5 +1,6 @@
-//! How a router commits a transaction that it hasn't begun: it asks the shard that the token names how the transaction ended.
-//! What is known as committed is known by its tag, since a session may have begun one number at two routers.
+//! How a router commits a transaction that it hasn't begun: it asks the shard that the token names
+//! how the transaction ended. What is known as committed is known by its tag, since a session may
+//! have begun one number at two routers.
 ghost use Rattle.std.specs.Prelude.{◌≡◌, [], unwrap_or, IfOk};
 ghost use Rattle.std.specs.Option.{option_copied};
 ghost use Rattle.router_state.specs.Deeds.{nothing, both, aborting};
@@ -136,7 +137,10 @@ fn seeks_above(
     seeking: Seeking,
     session: &Session,
 ) -> Result<Deed, AllocError>
-    ensures { IfOk result (λ d. d ≡ record { session = (asks_anew lsid number seeking []).session; given = both (aborting (leaves lsid session.now)) (asks_anew lsid number seeking []).given }) }
+    ensures { IfOk result (λ d. d ≡ record {
+      session = (asks_anew lsid number seeking []).session;
+      given = both (aborting (leaves lsid session.now)) (asks_anew lsid number seeking []).given;
+    }) }
 {
     let deed = asks_anew(alloc, lsid, number, seeking, Items::new(alloc))?;
     let left = leaves(alloc, lsid, session)?;
@@ -155,7 +159,8 @@ pub fn seeks_by(
     seeking: Seeking,
     session: Option<&Session>,
 ) -> Result<Deed, AllocError>
-    ensures { IfOk result (λ d. d ≡ seeks_by lsid number asker seeking (option_copied session.entry)) }
+    ensures { IfOk result
+        (λ d. d ≡ seeks_by lsid number asker seeking (option_copied session.entry)) }
 {
     let Some(session) = session else {
         return asks_anew(alloc, lsid, number, seeking, Items::new(alloc));
@@ -212,7 +217,8 @@ pub fn on_recovered(
     known: &Tags,
     outcome: &Outcome,
 ) -> Result<Option<Deed>, AllocError>
-    ensures { IfOk result (λ d. unwrap_or d (sought number seeking known.now nothing) ≡ on_recovered number seeking known.now outcome.now) }
+    ensures { IfOk result (λ d. unwrap_or d (sought number seeking known.now nothing)
+        ≡ on_recovered number seeking known.now outcome.now) }
 {
     let Some(sought) = seeking else {
         return Ok(None);

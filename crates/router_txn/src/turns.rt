@@ -71,7 +71,8 @@ pub fn tells(
     phase: Phase,
     t: &Transaction,
 ) -> Result<Deed, AllocError>
-    ensures { IfOk result (λ d. d ≡ in_session number (ended phase t.now) (telling (told_if asker reply))) }
+    ensures { IfOk result
+        (λ d. d ≡ in_session number (ended phase t.now) (telling (told_if asker reply))) }
 {
     let given = Given::telling(alloc, told_if(alloc, asker, reply)?);
     ends_in(alloc, number, phase, t, given)

@@ -1,5 +1,5 @@
--- The rows of each collection. A collection is there from its first document on, as in the server's manual, "Databases
--- and Collections"; before that it has no rows.
+-- The rows of each collection. A collection is there from its first document on, as in the server's
+-- manual, "Databases and Collections"; before that it has no rows.
 use Rattle.std.specs.Prelude.{ℕ, List, [], ◌∷◌, if◌then◌else◌}
 use Rattle.std.specs.Str.{bytes_eq}
 use Rattle.txn_semantics.specs.Rows.{Row}

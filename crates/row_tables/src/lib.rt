@@ -1,4 +1,5 @@
-//! The rows of each collection, in memory: a list of tables, each with a namespace and the rows of that collection.
+//! The rows of each collection, in memory: a list of tables, each with a namespace and the rows of
+//! that collection.
 #![tactic(auto)]
 
 mod rows;

@@ -13,7 +13,8 @@ use bson_core::Doc;
 use std::alloc::{AllocError, Global};
 use txn_types::{Id, Ns, Write, Writes};
 
-/// The rows of all collections. A collection is found by going through all of them, a row in it by binary search.
+/// The rows of all collections. A collection is found by going through all of them, a row in it by
+/// binary search.
 #[derive(Drop)]
 pub struct Tables {
     tables: Vec<Table>,
@@ -44,10 +45,13 @@ impl Tables {
         }
     }
 
-    /// Lays the writes of a commit over the rows. Where memory runs out, some of them have been laid, from the first on.
+    /// Lays the writes of a commit over the rows. Where memory runs out, some of them have been
+    /// laid, from the first on.
     pub fn write(&mut self, alloc: Global, writes: &Writes) -> Result<(), AllocError>
-        ensures ok { OnOk result ((ns : List ℕ) → rows_of self.new ns ≡ under ns (rows_of self.old ns) writes.now) }
-        ensures err { OnErr result ((count : ℕ) × ((ns : List ℕ) → rows_of self.new ns ≡ under ns (rows_of self.old ns) (take count writes.now))) }
+        ensures ok { OnOk result
+            ((ns : List ℕ) → rows_of self.new ns ≡ under ns (rows_of self.old ns) writes.now) }
+        ensures err { OnErr result ((count : ℕ) × ((ns : List ℕ)
+            → rows_of self.new ns ≡ under ns (rows_of self.old ns) (take count writes.now))) }
     {
         for write in writes.as_slice() {
             self.lay(alloc, write)?;
@@ -66,7 +70,8 @@ impl Tables {
     /// Lays one write over the rows.
     fn lay(&mut self, alloc: Global, write: &Write) -> Result<(), AllocError>
         requires { HasOwnId write.now }
-        ensures ok { OnOk result ((ns : List ℕ) → rows_of self.new ns ≡ written ns (rows_of self.old ns) write.now) }
+        ensures ok { OnOk result
+            ((ns : List ℕ) → rows_of self.new ns ≡ written ns (rows_of self.old ns) write.now) }
         ensures err { OnErr result ((ns : List ℕ) → rows_of self.new ns ≡ rows_of self.old ns) }
     {
         match write {
@@ -81,8 +86,10 @@ impl Tables {
     /// Puts a copy of the document into the collection.
     fn put(&mut self, alloc: Global, ns: &Ns, id: &Id, doc: &Doc) -> Result<(), AllocError>
         requires { id_in doc.now ≡ Some id.now }
-        ensures ok { OnOk result ((other : List ℕ) → rows_of self.new other ≡ written other (rows_of self.old other) (Put ns.now id.now doc.now)) }
-        ensures err { OnErr result ((other : List ℕ) → rows_of self.new other ≡ rows_of self.old other) }
+        ensures ok { OnOk result ((other : List ℕ) → rows_of self.new other
+            ≡ written other (rows_of self.old other) (Put ns.now id.now doc.now)) }
+        ensures err { OnErr result
+            ((other : List ℕ) → rows_of self.new other ≡ rows_of self.old other) }
     {
         if let Some(at) = self.place_of(ns) {
             let table = &mut self.tables[at];
@@ -96,7 +103,8 @@ impl Tables {
 
     /// Takes what stands under the id out of the collection.
     fn take_out(&mut self, ns: &Ns, id: &Id)
-        ensures { (other : List ℕ) → rows_of self.new other ≡ written other (rows_of self.old other) (Delete ns.now id.now) }
+        ensures { (other : List ℕ) → rows_of self.new other
+            ≡ written other (rows_of self.old other) (Delete ns.now id.now) }
     {
         if let Some(at) = self.place_of(ns) {
             let table = &mut self.tables[at];

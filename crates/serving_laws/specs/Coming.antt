@@ -15,11 +15,13 @@ use Rattle.part_laws.specs.Kept.{IsDecided}
 abbrev pub MayBegin : Part → Statement → Type 0
 MayBegin p m = (s : Session) → session p m.lsid ≡ Some s → s.number <ℤ m.number
 
--- where its session has no number as great, a statement's transaction wrote nothing here in this boot, and has no commit
+-- where its session has no number as great, a statement's transaction wrote nothing here in this
+-- boot, and has no commit
 abbrev pub IsNew : Part → List Entry → List Served → Statement → Type 0
 IsNew p entries served m = MayBegin p m → (written m.tag p.boot served ≡ []) × HasNone m.tag entries
 
--- a statement is new where it may begin its transaction, and a decision of a prepared one is that of the commits
+-- a statement is new where it may begin its transaction, and a decision of a prepared one is that
+-- of the commits
 abbrev pub MsgComes : Part → Opens → List Entry → List Served → Msg → Type 0
 MsgComes p opens entries served (msg.Statement m) = IsNew p entries served m
 MsgComes p opens entries served (msg.Decide m) = IsDecided opens m

@@ -19,7 +19,8 @@ pub record Serving (s : ShardState) : Type 0 where
   pub served : List Served
   pub holds : IsServing s.part opens s.clock.last entries served
 
--- a shard that starts again has the same commits and what was served, and the prepared transactions alone
+-- a shard that starts again has the same commits and what was served, and the prepared transactions
+-- alone
 abbrev pub ServesOn : (s : ShardState) → Serving s → ShardState → Type 0
 ServesOn s h new = IsServing new.part (prepared_ones h.opens) new.clock.last h.entries h.served
 
@@ -28,8 +29,12 @@ abbrev pub AtLast : List (List Rec) → Type 0 → Type 0 → Type 0
 AtLast [] before behind = behind
 AtLast (next ∷ more) before behind = before
 
--- as behind the step where all its appends were made, or where the last failed and is found whole; and else as before it
-abbrev pub ServesAgain : (old : NodeState) (o : CoreStep) (a : NodeAnswer) (new : NodeState) (recs : List Rec) → Appended old o a new ⊎ Failed old o a new → IsLeft new recs → Serving old.core → Serving o.core → ShardState → Type 0
+-- as behind the step where all its appends were made, or where the last failed and is found whole;
+-- and else as before it
+abbrev pub ServesAgain : (old : NodeState) (o : CoreStep) (a : NodeAnswer) (new : NodeState)
+    (recs : List Rec) → Appended old o a new ⊎ Failed old o a new → IsLeft new recs
+    → Serving old.core → Serving o.core → ShardState → Type 0
 ServesAgain old o a new recs (inl done) left before behind m = ServesOn o.core behind m
 ServesAgain old o a new recs (inr failed) (inl is) before behind m = ServesOn old.core before m
-ServesAgain old o a new recs (inr failed) (inr is) before behind m = AtLast failed.rest (ServesOn old.core before m) (ServesOn o.core behind m)
+ServesAgain old o a new recs (inr failed) (inr is) before behind m =
+    AtLast failed.rest (ServesOn old.core before m) (ServesOn o.core behind m)

@@ -1,4 +1,5 @@
--- What a shard's step leaves of what holds of its part beside its commits and what was served there.
+-- What a shard's step leaves of what holds of its part beside its commits and what was served
+-- there.
 use Rattle.std.specs.Prelude.{◌≡◌, ◌⊎◌, ◌≤◌, ℕ, List, All, Option, Some, None}
 use Rattle.txn_types.specs.declared.event.Happening.{Happening}
 use Rattle.txn_types.specs.declared.event.Happening.TheVariants as what
@@ -37,24 +38,32 @@ abbrev pub NoneButDecided : Option Rec → Type 0
 NoneButDecided None = Unit {0}
 NoneButDecided (Some r) = AppliesOnly r
 
--- behind a message: a commit's record adds its entry, by its time; a prepare's stands prepared; a decision is applied to its
--- transaction; and else the commits stay, and what is prepared
+-- behind a message: a commit's record adds its entry, by its time; a prepare's stands prepared; a
+-- decision is applied to its transaction; and else the commits stay, and what is prepared
 abbrev pub LeftBy : Opens → Part → ℕ → ℕ → List Entry → List Served → Msg → Option Rec → Type 0
-LeftBy old q last later entries told (msg.Commit m) recorded = CommitsBy old q last later entries told recorded
-LeftBy old q last later entries told (msg.Prepare m) recorded = PreparesBy old q last later entries told recorded
-LeftBy old q last later entries told (msg.Decide m) recorded = HoldsBut m.tag old q later entries told × NoneButDecided recorded
-LeftBy old q last later entries told other recorded = Holds old q later entries told × NoneButCoord recorded
+LeftBy old q last later entries told (msg.Commit m) recorded =
+    CommitsBy old q last later entries told recorded
+LeftBy old q last later entries told (msg.Prepare m) recorded =
+    PreparesBy old q last later entries told recorded
+LeftBy old q last later entries told (msg.Decide m) recorded =
+    HoldsBut m.tag old q later entries told × NoneButDecided recorded
+LeftBy old q last later entries told other recorded = Holds old q later entries told
+    × NoneButCoord recorded
 
 abbrev pub Left : Opens → Part → ℕ → ℕ → List Entry → List Served → Happening → Option Rec → Type 0
-Left old q last later entries told (what.Deliver e) recorded = LeftBy old q last later entries told e.msg recorded
-Left old q last later entries told other recorded = Holds old q later entries told × NoneButCoord recorded
+Left old q last later entries told (what.Deliver e) recorded =
+    LeftBy old q last later entries told e.msg recorded
+Left old q last later entries told other recorded = Holds old q later entries told
+    × NoneButCoord recorded
 
 -- at its event a shard first ends what expired, if anything
 abbrev pub Enters : Part → Part → Type 0
 Enters p entered = (entered ≡ p) ⊎ ((wall : ℕ) × (entered ≡ expire p wall))
 
--- behind a step: what was served, with at most one statement more; the clock when its message had come; and what is left
-pub record StepServes (old : Opens) (s : ShardState) (w : Happening) (entries : List Entry) (served : List Served) (o : CoreStep) : Type 0 where
+-- behind a step: what was served, with at most one statement more; the clock when its message had
+-- come; and what is left
+pub record StepServes (old : Opens) (s : ShardState) (w : Happening) (entries : List Entry)
+    (served : List Served) (o : CoreStep) : Type 0 where
   pub told : List Served
   pub last : ℕ
   pub rises : s.clock.last ≤ last

@@ -15,5 +15,6 @@ lsid_input (Client bytes) = bytes ∷ []
 lsid_input (Own router boot conn) = fed.u16 router ++ fed.u32 boot ++ fed.u32 conn
 
 -- one session is hashed in one way
-pub same_lsids_hash_alike : (a b : Lsid) → IsTrue (eq_by_cmp lsid_cmp a b) → lsid_input a ≡ lsid_input b
+pub same_lsids_hash_alike : (a b : Lsid) → IsTrue (eq_by_cmp lsid_cmp a b)
+    → lsid_input a ≡ lsid_input b
 same_lsids_hash_alike a b same = ap lsid_input (tells_apart lsid_exact a b same)

@@ -19,8 +19,8 @@ pub fn is_same_tag(a: &Tag, b: &Tag) -> bool
     a.router.cmp(&b.router).then(later).is_eq()
 }
 
-/// Where the session stands beside another: those that clients named come first, by their bytes; then those of
-/// connections, by router, boot and connection.
+/// Where the session stands beside another: those that clients named come first, by their bytes;
+/// then those of connections, by router, boot and connection.
 pub fn compare_lsids(a: &Lsid, b: &Lsid) -> Ordering
     ensures { result ≡ lsid_cmp a.now b.now }
 {

@@ -131,7 +131,8 @@ impl Sessions {
         }
     }
 
-    /// Sets the session's newest transaction, whatever stood there; only a session that is new may want memory.
+    /// Sets the session's newest transaction, whatever stood there; only a session that is new may
+    /// want memory.
     pub fn set(&mut self, lsid: &Lsid, session: Session) -> Result<(), AllocFailed<Session>>
         ensures ok { OnOk result (self.new ≡ with_session self.old lsid.now session) }
         ensures there { IsSome (session_of self.old lsid.now) → IsOk result }
@@ -161,7 +162,8 @@ impl Sessions {
     /// Sets the state of the transaction of a session that is there. It takes no memory.
     pub fn end(&mut self, lsid: &Lsid, state: SessionState)
         requires { IsSome (session_of self.old lsid.now) }
-        ensures { IfSome (session_of self.old lsid.now) (λ session. self.new ≡ with_state self.old lsid.now session state) }
+        ensures { IfSome (session_of self.old lsid.now)
+            (λ session. self.new ≡ with_state self.old lsid.now session state) }
     {
         match self.find(lsid) {
             Some(session) => {
@@ -179,7 +181,8 @@ impl Sessions {
     /// Takes out the session that came last.
     pub fn take_back(&mut self)
         ensures limit { self.new.limit ≡ self.old.limit }
-        ensures entries { (entries : List (Lsid × Session)) (last : Lsid × Session) → self.old.entries ≡ entries ++ last ∷ [] → self.new.entries ≡ entries }
+        ensures entries { (entries : List (Lsid × Session)) (last : Lsid × Session)
+            → self.old.entries ≡ entries ++ last ∷ [] → self.new.entries ≡ entries }
     {
         let _last = self.entries.pop();
     }

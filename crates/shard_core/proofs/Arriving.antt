@@ -10,14 +10,17 @@ pub raised_last : (clock : Clock) (bound : Option ℕ) → (raised clock bound).
 raised_last clock None = refl
 raised_last clock (Some bound) = refl
 
-pub arrived_last : (s : ShardState) (wall : ℕ) (e : Envelope) → (arrived s wall e).clock.last ≡ max (max s.clock.last e.time) (read_at_of e.msg)
+pub arrived_last : (s : ShardState) (wall : ℕ) (e : Envelope)
+    → (arrived s wall e).clock.last ≡ max (max s.clock.last e.time) (read_at_of e.msg)
 unfolding arrived
-arrived_last s wall e = ap (λ (n : ℕ). max (max n e.time) (read_at_of e.msg)) (raised_last s.clock (ceiling_of (expired (walled s wall)) e))
+arrived_last s wall e = ap (λ (n : ℕ). max (max n e.time) (read_at_of e.msg)) (raised_last s.clock
+    (ceiling_of (expired (walled s wall)) e))
 
 pub arrived_coord : (s : ShardState) (wall : ℕ) (e : Envelope) → (arrived s wall e).coord ≡ s.coord
 unfolding arrived
 arrived_coord s wall e = refl
 
-pub arrived_shard : (s : ShardState) (wall : ℕ) (e : Envelope) → (arrived s wall e).part.shard ≡ s.part.shard
+pub arrived_shard : (s : ShardState) (wall : ℕ) (e : Envelope)
+    → (arrived s wall e).part.shard ≡ s.part.shard
 unfolding arrived
 arrived_shard s wall e = sym (expire_keeps s.part (max s.wall wall)).shard

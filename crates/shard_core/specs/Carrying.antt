@@ -1,5 +1,5 @@
--- What a step's record carries behind its front, which is known before the step: the writes that the transaction has, or
--- the participants that the message names.
+-- What a step's record carries behind its front, which is known before the step: the writes that
+-- the transaction has, or the participants that the message names.
 use Rattle.std.specs.Prelude.{◌≡◌, ◌⊎◌, ◌≤◌, ℕ, List, [], ◌∷◌, Option, IfSome}
 use Rattle.txn_types.specs.Order.{lsid_cmp}
 use Rattle.txn_types.specs.declared.event.Happening.{Happening}
@@ -27,7 +27,8 @@ pub record IsBounded (p : Part) : Type 0 where
   pub rises : Rises lsid_cmp p.live
   pub within : AreWithin p.live
 
--- what stands behind the front of a record that the delivery of a message makes, where it makes one that carries anything
+-- what stands behind the front of a record that the delivery of a message makes, where it makes one
+-- that carries anything
 abbrev pub carried_by : Part → Msg → List ℕ
 carried_by p (msg.Commit m) = writes_bytes (own_of (open_of p m.lsid))
 carried_by p (msg.Prepare m) = writes_bytes (own_of (open_of p m.lsid))

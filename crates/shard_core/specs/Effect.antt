@@ -1,5 +1,6 @@
--- What a message does at a shard that isn't stopped, as far as other nodes can tell: what it leaves alone, what it records,
--- and which transactions it names. All parts of the joint invariant rest on this one account of the rules.
+-- What a message does at a shard that isn't stopped, as far as other nodes can tell: what it leaves
+-- alone, what it records, and which transactions it names. All parts of the joint invariant rest on
+-- this one account of the rules.
 use Rattle.std.specs.Prelude.{◌≡◌, ◌≤◌, max, List, All, Some, None, IfSome}
 use Rattle.txn_types.specs.Letters.{Letter}
 use Rattle.txn_types.specs.declared.decision.Decision.{Decision}
@@ -35,13 +36,15 @@ pub record IsDecided (s : ShardState) (m : Msg) (tag : Tag) (d : Decision) : Typ
   pub there : coordinated_of s.coord tag ≡ Some coordinated
   pub decides : decided_by vote.shard vote.vote coordinated ≡ Some d
 
--- What a message records: a commit or a prepared transaction at the clock's time then, a decision that was sent, or one that is
--- made, and the begin and the end of a commit across shards. No boot, and no ceiling.
+-- What a message records: a commit or a prepared transaction at the clock's time then, a decision
+-- that was sent, or one that is made, and the begin and the end of a commit across shards. No boot,
+-- and no ceiling.
 abbrev pub MayRecord : ShardState → Msg → ShardState → Rec → Type 0
 MayRecord s m new (rec.Boot boot) = ⊥
 MayRecord s m new (rec.Ceiling bound) = ⊥
 MayRecord s m new (rec.Commit tag lsid number read_at at writes) = at ≡ new.clock.last
-MayRecord s m new (rec.Prepared tag lsid number boot read_at at coordinator writes) = at ≡ new.clock.last
+MayRecord s m new (rec.Prepared tag lsid number boot read_at at coordinator writes) =
+    at ≡ new.clock.last
 MayRecord s m new (rec.Decided r) = (d : Decide) × (m ≡ msg.Decide d) × (r.decision ≡ d.decision)
 MayRecord s m new (rec.CoordStart tag lsid number parts) = named_in m ≡ named tag lsid number
 MayRecord s m new (rec.CoordDecision tag d) = IsDecided s m tag d
@@ -62,7 +65,8 @@ NamesOnly P l = IfSome (named_in l.1) P
 abbrev pub AllName : (Named → Type 0) → List Letter → Type 0
 AllName P out = All (NamesOnly P) out
 
--- Of what a message names, and of plans, what is said of names is said of the plans then and of what is sent.
+-- Of what a message names, and of plans, what is said of names is said of the plans then and of
+-- what is sent.
 pub record Effect (P : Named → Type 0) (s : ShardState) (m : Msg) (r : Ruled) : Type 0 where
   pub wall : r.core.wall ≡ s.wall
   pub stopped : r.core.stopped ≡ s.stopped
@@ -82,11 +86,14 @@ NamesBy P other = Unit {0}
 abbrev pub SentNames : (Named → Type 0) → List Envelope → Type 0
 SentNames P out = All (λ e. IfSome (named_in e.msg) P) out
 
--- a step's record is that of the message which it was given, as the rule of the message met the shard
+-- a step's record is that of the message which it was given, as the rule of the message met the
+-- shard
 abbrev pub StepRecords : ShardState → NodeEvent → ShardState → Rec → Type 0
-StepRecords s e new r = (sent : Envelope) × (e.what ≡ what.Deliver sent) × MayRecord (met (entered s e) sent) sent.msg new r
+StepRecords s e new r = (sent : Envelope) × (e.what ≡ what.Deliver sent)
+    × MayRecord (met (entered s e) sent) sent.msg new r
 
-pub record StepEffect (P : Named → Type 0) (s : ShardState) (e : NodeEvent) (o : CoreStep) : Type 0 where
+pub record StepEffect (P : Named → Type 0) (s : ShardState) (e : NodeEvent)
+    (o : CoreStep) : Type 0 where
   pub wall : o.core.wall ≤ max s.wall e.wall
   pub ceiling : s.clock.ceiling ≤ o.core.clock.ceiling
   pub stopped : o.core.stopped ≡ s.stopped

@@ -18,4 +18,7 @@ waits coords tag router = waits_for router (coordinated_of coords tag)
 
 -- what a shard of this number and boot tells a router that waits
 abbrev pub outcome_to : ℕ → ℕ → Tag → Decision → ℕ → Letter
-outcome_to shard boot tag d router = (Router router, msg.Outcome (record { tag = tag; shard = shard; boot = boot; told = told_of d }))
+outcome_to shard boot tag d router = (
+  Router router,
+  msg.Outcome (record { tag = tag; shard = shard; boot = boot; told = told_of d }),
+)

@@ -30,7 +30,8 @@ refused s Stopped = stays s answer.Stopped
 
 -- the core's step as the call says it: this core behind it, this outbox, and this result
 abbrev pub said : ShardState → Outbox → Result Step StepErr → CoreStep
-said s out (Ok step) = record { core = s; ceiling = step.ceiling; rec = step.then; answer = answer_by out step.held }
+said s out (Ok step) =
+    record { core = s; ceiling = step.ceiling; rec = step.then; answer = answer_by out step.held }
 said s out (Err e) = refused s e
 
 -- it is the core's step, with some room

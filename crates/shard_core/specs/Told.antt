@@ -1,4 +1,5 @@
--- What the call of a rule gives: a record, envelopes, and what is held; and what comes of a delivered message.
+-- What the call of a rule gives: a record, envelopes, and what is held; and what comes of a
+-- delivered message.
 use Rattle.std.specs.Prelude.{◌≡◌, ◌⊎◌, ℕ, [], ◌∷◌, Some, option_and_then}
 use Rattle.txn_types.specs.Letters.{Letter, all_sent_by}
 use Rattle.txn_types.specs.declared.message.Envelope.{Envelope}
@@ -15,7 +16,11 @@ use Rattle.shard_core.specs.Wanting.{wanting, told_if}
 
 -- its messages are sent with the clock as it stands then
 abbrev pub given_by : Ruled → Given
-given_by r = record { rec = r.rec; out = all_sent_by (Shard r.core.part.shard) r.core.clock.last r.out; held = r.held }
+given_by r = record {
+  rec = r.rec;
+  out = all_sent_by (Shard r.core.part.shard) r.core.clock.last r.out;
+  held = r.held;
+}
 
 -- this core is left, and this is given
 abbrev pub Gives : Ruled → ShardState → Given → Type 0
@@ -27,9 +32,11 @@ told_by s lsid tag letter = sends (with_part s (ended_for_memory s.part lsid tag
 
 -- the want of memory is told, where it may be
 abbrev pub Tells : ShardState → Envelope → ShardState → Given → Type 0
-Tells s e new g = (r : Ruled) × (option_and_then (told_if s) (wanting s e.from e.msg) ≡ Some r) × Gives r new g
+Tells s e new g = (r : Ruled) × (option_and_then (told_if s) (wanting s e.from e.msg) ≡ Some r)
+    × Gives r new g
 
--- what comes of a message at a shard that has its times: its rule, or the want of memory is told in its place
+-- what comes of a message at a shard that has its times: its rule, or the want of memory is told in
+-- its place
 abbrev pub ComesAt : ShardState → Envelope → ShardState → Given → Type 0
 ComesAt s e new g = Gives (ruled s e.from e.msg) new g ⊎ Tells s e new g
 

@@ -1,4 +1,5 @@
-//! What a shard that isn't stopped does with a message to a coordinator, and with one that looks for a decision.
+//! What a shard that isn't stopped does with a message to a coordinator, and with one that looks
+//! for a decision.
 ghost use Rattle.std.specs.Prelude.{◌≡◌, ◌<◌, [], true, Some, None, IfOk, IfSome, IsSomeAnd, OnOk, OnErr, if◌then◌else◌};
 ghost use Rattle.txn_types.specs.Letters.{all_sent_by};
 ghost use Rattle.txn_types.specs.declared.node.NodeId.TheVariants as node;
@@ -91,10 +92,12 @@ impl Shard {
         }
     }
 
-    /// Where the tag is coordinated here, the router is told the decision, or waits for it; else the slip comes back.
+    /// Where the tag is coordinated here, the router is told the decision, or waits for it; else
+    /// the slip comes back.
     fn unless_coordinated(&mut self, slip: Slip, router: u16, tag: Tag) -> Result<Given, Slip>
         requires { router < 8 }
-        ensures ok { IfOk result (λ g. (other : Ruled) → Gives (unless_coordinated self.old router tag (coordinated_of self.old.coord tag) other) self.new g) }
+        ensures ok { IfOk result (λ g. (other : Ruled) → Gives (unless_coordinated self.old router
+            tag (coordinated_of self.old.coord tag) other) self.new g) }
         ensures new { OnErr result (coordinated_of self.old.coord tag ≡ None) }
         ensures err { OnErr result (self.new ≡ self.old) }
     {
@@ -105,7 +108,8 @@ impl Shard {
         }
     }
 
-    /// Where the session has a larger number, or the tag is coordinated here, that is told; else the slip comes back.
+    /// Where the session has a larger number, or the tag is coordinated here, that is told; else
+    /// the slip comes back.
     fn unless_known(
         &mut self,
         slip: Slip,
@@ -115,8 +119,10 @@ impl Shard {
         number: i64,
     ) -> Result<Given, Slip>
         requires { router < 8 }
-        ensures ok { IfOk result (λ g. (other : Ruled) → Gives (unless_known self.old router tag (session self.old.part lsid.now) number other) self.new g) }
-        ensures newest { OnErr result (larger_number (session self.old.part lsid.now) number ≡ None) }
+        ensures ok { IfOk result (λ g. (other : Ruled) → Gives (unless_known self.old router tag
+            (session self.old.part lsid.now) number other) self.new g) }
+        ensures newest { OnErr result
+            (larger_number (session self.old.part lsid.now) number ≡ None) }
         ensures new { OnErr result (coordinated_of self.old.coord tag ≡ None) }
         ensures err { OnErr result (self.new ≡ self.old) }
     {
@@ -139,7 +145,9 @@ impl Shard {
     /// A live transaction of another boot is ended, and that is told.
     fn fails(&mut self, slip: Slip, router: u16, m: &CommitTwo) -> Given
         requires { IsSomeAnd (session self.old.part m.now.lsid) (λ s. s.state ≡ state.Live) }
-        ensures { (own : Session) → session self.old.part m.now.lsid ≡ Some own → Gives (fails self.old router m.now own (Cause.Unavailable m.now.boot self.old.part.boot)) self.new result }
+        ensures { (own : Session) → session self.old.part m.now.lsid ≡ Some own
+            → Gives (fails self.old router m.now own
+            (Cause.Unavailable m.now.boot self.old.part.boot)) self.new result }
     {
         let carried = m.boot;
         let have = self.part.boot();
@@ -153,7 +161,8 @@ impl Shard {
     fn begin(&mut self, router: u16, m: &CommitTwo) -> Result<(), AllocError>
         requires router { router < 8 }
         requires new { coordinated_of self.old.coord m.now.tag ≡ None }
-        ensures ok { OnOk result (self.new ≡ with_coord self.old (with_coordinated m.now.tag (with_asker router (undecided (plan_of m.now))) self.old.coord)) }
+        ensures ok { OnOk result (self.new ≡ with_coord self.old (with_coordinated m.now.tag
+            (with_asker router (undecided (plan_of m.now))) self.old.coord)) }
         ensures err { OnErr result (self.new ≡ self.old) }
     {
         let parts = m.parts.as_slice();
@@ -169,7 +178,8 @@ impl Shard {
     /// What asks the participants to prepare.
     fn asks_to_prepare(&self, m: &CommitTwo, plan: &Plan) -> Result<Envelopes, AllocError>
         requires { plan.now ≡ plan_of m.now }
-        ensures { IfOk result (λ out. out ≡ all_sent_by (node.Shard self.now.part.shard) self.now.clock.last (prepares self.now.part.shard m.now.tag (plan_of m.now))) }
+        ensures { IfOk result (λ out. out ≡ all_sent_by (node.Shard self.now.part.shard)
+            self.now.clock.last (prepares self.now.part.shard m.now.tag (plan_of m.now))) }
     {
         let (shard, parts) = (self.part.shard(), m.parts.as_slice());
         match prepares(self.alloc, shard, self.clock.last, m.tag, plan, parts) {
@@ -211,7 +221,8 @@ impl Shard {
         requires router { router < 8 }
         requires new { coordinated_of self.old.coord m.now.tag ≡ None }
         requires live { IsSomeAnd (session self.old.part m.now.lsid) (λ s. s.state ≡ state.Live) }
-        ensures ok { IfOk result (λ g. (own : Session) → session self.old.part m.now.lsid ≡ Some own → Gives (starts_own self.old router m.now own state.Live) self.new g) }
+        ensures ok { IfOk result (λ g. (own : Session) → session self.old.part m.now.lsid ≡ Some own
+            → Gives (starts_own self.old router m.now own state.Live) self.new g) }
         ensures err { OnErr result (self.new ≡ self.old) }
     {
         if m.boot == self.part.boot() {
@@ -225,9 +236,11 @@ impl Shard {
         requires router { router < 8 }
         requires newest { larger_number (session self.old.part m.now.lsid) m.now.number ≡ None }
         requires new { coordinated_of self.old.coord m.now.tag ≡ None }
-        ensures ok { IfOk result (λ g. Gives (starts_new self.old router m.now (session self.old.part m.now.lsid)) self.new g) }
+        ensures ok { IfOk result (λ g. Gives
+            (starts_new self.old router m.now (session self.old.part m.now.lsid)) self.new g) }
         ensures err { OnErr result (self.new ≡ self.old) }
-        ensures memory { OnErr result (may_tell_memory self.old.part m.now.lsid m.now.number m.now.tag ≡ true) }
+        ensures memory { OnErr result
+            (may_tell_memory self.old.part m.now.lsid m.now.number m.now.tag ≡ true) }
     {
         let Some(own) = self.part.session(&m.lsid) else {
             return Ok(self.is_lost(slip, router, m));
@@ -260,7 +273,8 @@ impl Shard {
         requires { router < 8 }
         ensures ok { IfOk result (λ g. Gives (on_commit_two self.old router m.now) self.new g) }
         ensures err { OnErr result (self.new ≡ self.old) }
-        ensures memory { OnErr result (may_tell_memory self.old.part m.now.lsid m.now.number m.now.tag ≡ true) }
+        ensures memory { OnErr result
+            (may_tell_memory self.old.part m.now.lsid m.now.number m.now.tag ≡ true) }
         ensures new { OnErr result (coordinated_of self.old.coord m.now.tag ≡ None) }
     {
         match self.unless_known(slip, router, m.tag, &m.lsid, m.number) {
@@ -273,7 +287,8 @@ impl Shard {
     fn recovers(&mut self, slip: Slip, router: u16, m: &Recover) -> Result<Given, PartErr>
         ensures ok { IfOk result (λ g. Gives (recovers self.old router m.now) self.new g) }
         ensures err { OnErr result (self.new ≡ self.old) }
-        ensures memory { OnErr result (may_tell_memory self.old.part m.now.lsid m.now.number m.now.tag ≡ true) }
+        ensures memory { OnErr result
+            (may_tell_memory self.old.part m.now.lsid m.now.number m.now.tag ≡ true) }
     {
         match self.part.recover(m) {
             Ok(told) => Ok(self.tells(slip, router, m.tag, told)),
@@ -291,7 +306,8 @@ impl Shard {
         requires { router < 8 }
         ensures ok { IfOk result (λ g. Gives (on_recover self.old router m.now) self.new g) }
         ensures err { OnErr result (self.new ≡ self.old) }
-        ensures memory { OnErr result (may_tell_memory self.old.part m.now.lsid m.now.number m.now.tag ≡ true) }
+        ensures memory { OnErr result
+            (may_tell_memory self.old.part m.now.lsid m.now.number m.now.tag ≡ true) }
         ensures new { OnErr result (coordinated_of self.old.coord m.now.tag ≡ None) }
     {
         match self.unless_known(slip, router, m.tag, &m.lsid, m.number) {
@@ -300,7 +316,8 @@ impl Shard {
         }
     }
 
-    /// A participant has the decision; the last acknowledgement ends the coordination. It takes no memory.
+    /// A participant has the decision; the last acknowledgement ends the coordination. It takes no
+    /// memory.
     pub(crate) fn on_acked(&mut self, m: &Acked) -> Given
         ensures { Gives (on_acked self.old m.now) self.new result }
     {
@@ -317,7 +334,8 @@ impl Shard {
 
     /// What is waited for, asked again at this time. It changes nothing.
     pub(crate) fn resends(&self, time: Ts) -> Result<Envelopes, PartErr>
-        ensures { IfOk result (λ out. out ≡ all_sent_by (node.Shard self.now.part.shard) time (resends self.now.part.shard self.now.coord)) }
+        ensures { IfOk result (λ out. out ≡ all_sent_by (node.Shard self.now.part.shard) time
+            (resends self.now.part.shard self.now.coord)) }
     {
         let mut out: Vec<Envelope> = Vec::new(self.alloc);
         match self.coord.resend(self.part.shard(), time, &mut out) {

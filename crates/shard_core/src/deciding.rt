@@ -36,7 +36,9 @@ fn put_outcomes(
     routers: &[u16],
 )
     requires { vec_len out.old + length routers.now ≤ vec_capacity out.old }
-    ensures items { out.new.items ≡ out.old.items ++ all_sent_by (node.Shard sender.now.shard) sender.now.time (map (outcome_to sender.now.shard sender.now.boot tag decision.now) routers.now) }
+    ensures items { out.new.items
+        ≡ out.old.items ++ all_sent_by (node.Shard sender.now.shard) sender.now.time
+        (map (outcome_to sender.now.shard sender.now.boot tag decision.now) routers.now) }
     ensures len { vec_len out.new ≡ vec_len out.old + length routers.now }
     ensures capacity { vec_capacity out.old ≤ vec_capacity out.new }
 {
@@ -56,7 +58,8 @@ fn put_outcomes(
 /// Puts what each participant is told of a decision.
 fn put_decides(out: &mut Vec<Envelope>, sender: &Sender, tag: Tag, decision: &Decision, plan: &Plan)
     requires { vec_len out.old + length plan.now.parts ≤ vec_capacity out.old }
-    ensures { out.new.items ≡ out.old.items ++ all_sent_by (node.Shard sender.now.shard) sender.now.time (decides tag plan.now decision.now) }
+    ensures { out.new.items ≡ out.old.items ++ all_sent_by (node.Shard sender.now.shard)
+        sender.now.time (decides tag plan.now decision.now) }
 {
     for (shard, _boot) in plan.parts.as_slice() {
         let msg = Msg::Decide(Decide {
@@ -88,7 +91,9 @@ fn letters(
 ) -> Envelopes
     requires empty { out.items ≡ [] }
     requires room { vec_len out + length routers.now + length plan.now.parts ≤ vec_capacity out }
-    ensures { result ≡ all_sent_by (node.Shard sender.now.shard) sender.now.time (map (outcome_to sender.now.shard sender.now.boot tag decision.now) routers.now ++ decides tag plan.now decision.now) }
+    ensures { result ≡ all_sent_by (node.Shard sender.now.shard) sender.now.time
+        (map (outcome_to sender.now.shard sender.now.boot tag decision.now) routers.now
+        ++ decides tag plan.now decision.now) }
 {
     put_outcomes(&mut out, sender, tag, decision, routers);
     put_decides(&mut out, sender, tag, decision, plan);
@@ -98,7 +103,8 @@ fn letters(
 /// Room for so many envelopes.
 pub fn room_for(alloc: Global, routers: usize, parts: usize) -> Result<Vec<Envelope>, AllocError>
     requires { routers + parts < 2 ^ 64 }
-    ensures { IfOk result (λ out. (out.items ≡ []) × (vec_len out + routers + parts ≤ vec_capacity out)) }
+    ensures { IfOk result
+        (λ out. (out.items ≡ []) × (vec_len out + routers + parts ≤ vec_capacity out)) }
 {
     Vec::with_capacity(alloc, routers + parts)
 }
@@ -113,7 +119,8 @@ impl Shard {
 
     /// Keeps a router that waits for the decision.
     fn keep_asker(&self, askers: &mut Vec<u16>, tag: Tag, router: u16) -> Result<(), AllocError>
-        ensures { OnOk result (askers.new.items ≡ askers.old.items ++ filter (waits self.now.coord tag) (router ∷ [])) }
+        ensures { OnOk result (askers.new.items
+            ≡ askers.old.items ++ filter (waits self.now.coord tag) (router ∷ [])) }
     {
         if self.waits(tag, router) {
             askers.push(router)?;
@@ -134,7 +141,8 @@ impl Shard {
 
     /// The routers that wait for the decision.
     pub(crate) fn askers(&self, tag: Tag) -> Result<Vec<u16>, AllocError>
-        ensures { IfOk result (λ v. IfSome (coordinated_of self.now.coord tag) (λ c. v.items ≡ c.askers)) }
+        ensures { IfOk result
+            (λ v. IfSome (coordinated_of self.now.coord tag) (λ c. v.items ≡ c.askers)) }
     {
         let _first = self.coord.asked(tag, 0);
         match self.askers_of(tag, &ROUTERS) {
@@ -145,7 +153,8 @@ impl Shard {
 
     /// What is coordinated, as a copy.
     pub(crate) fn copy_plan(&self, tag: Tag) -> Result<Option<Plan>, AllocError>
-        ensures { IfOk result (λ plan. plan ≡ option_map (λ c. c.plan) (coordinated_of self.now.coord tag)) }
+        ensures { IfOk result
+            (λ plan. plan ≡ option_map (λ c. c.plan) (coordinated_of self.now.coord tag)) }
     {
         match self.coord.plan(tag) {
             Some(plan) => match plan.parts.copy(self.alloc) {
@@ -160,8 +169,8 @@ impl Shard {
         }
     }
 
-    /// Hears a vote, with room for the messages that tell what it decides: to the routers that wait, by rising number,
-    /// and to each participant. It takes no memory.
+    /// Hears a vote, with room for the messages that tell what it decides: to the routers that
+    /// wait, by rising number, and to each participant. It takes no memory.
     pub(crate) fn hear(
         &mut self,
         m: &Vote,
@@ -169,7 +178,8 @@ impl Shard {
         askers: &[u16],
         out: Vec<Envelope>,
     ) -> Given
-        requires coordinated { IsSomeAnd (coordinated_of self.old.coord m.now.tag) (λ c. (c.plan ≡ plan.now) × (c.askers ≡ askers.now)) }
+        requires coordinated { IsSomeAnd (coordinated_of self.old.coord m.now.tag)
+            (λ c. (c.plan ≡ plan.now) × (c.askers ≡ askers.now)) }
         requires empty { out.items ≡ [] }
         requires room { vec_len out + length askers.now + length plan.now.parts ≤ vec_capacity out }
         ensures { Gives (on_vote self.old m.now) self.new result }

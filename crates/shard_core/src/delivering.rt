@@ -1,5 +1,5 @@
-//! What comes of a delivered message. What may want memory and has no answer that tells so takes it before anything
-//! changes.
+//! What comes of a delivered message. What may want memory and has no answer that tells so takes it
+//! before anything changes.
 ghost use Rattle.std.specs.Prelude.{◌≡◌, false, Some, option_map, IfOk, OnErr};
 ghost use Rattle.coordinator.specs.TwoPhase.{coordinated_of};
 ghost use Rattle.shard_core.specs.Arrived.{arrived};
@@ -19,7 +19,8 @@ use txn_types::{
 };
 
 impl Shard {
-    /// A statement of a transaction that is coordinated here. At want of memory the shard is as it was.
+    /// A statement of a transaction that is coordinated here. At want of memory the shard is as it
+    /// was.
     fn deliver_own_statement(
         &mut self,
         wall: u32,
@@ -80,7 +81,8 @@ impl Shard {
         }
     }
 
-    /// A commit of a transaction that is coordinated here. At want of memory the shard is as it was.
+    /// A commit of a transaction that is coordinated here. At want of memory the shard is as it
+    /// was.
     fn deliver_own_commit(
         &mut self,
         wall: u32,
@@ -141,7 +143,8 @@ impl Shard {
         }
     }
 
-    /// A prepare of a transaction that is coordinated here. At want of memory the shard is as it was.
+    /// A prepare of a transaction that is coordinated here. At want of memory the shard is as it
+    /// was.
     fn deliver_own_prepare(
         &mut self,
         wall: u32,
@@ -202,8 +205,8 @@ impl Shard {
         }
     }
 
-    /// A router asks this shard to coordinate a commit. Want of memory is told: it comes of no transaction that is
-    /// coordinated here.
+    /// A router asks this shard to coordinate a commit. Want of memory is told: it comes of no
+    /// transaction that is coordinated here.
     fn deliver_commit_two(
         &mut self,
         wall: u32,
@@ -226,7 +229,8 @@ impl Shard {
         }
     }
 
-    /// A router asks how a transaction ended. Want of memory is told: it comes of no transaction that is coordinated here.
+    /// A router asks how a transaction ended. Want of memory is told: it comes of no transaction
+    /// that is coordinated here.
     fn deliver_recover(
         &mut self,
         wall: u32,
@@ -249,8 +253,8 @@ impl Shard {
         }
     }
 
-    /// A participant of a transaction that is coordinated here votes. Room for what tells a decision is taken before the
-    /// vote is heard.
+    /// A participant of a transaction that is coordinated here votes. Room for what tells a
+    /// decision is taken before the vote is heard.
     fn deliver_vote_on(
         &mut self,
         wall: u32,
@@ -259,7 +263,8 @@ impl Shard {
         plan: &Plan,
     ) -> Result<Given, PartErr>
         requires msg { envelope.now.msg ≡ Msg.Vote m.now }
-        requires plan { Some plan.now ≡ option_map (λ c. c.plan) (coordinated_of self.old.coord m.now.tag) }
+        requires plan { Some plan.now
+            ≡ option_map (λ c. c.plan) (coordinated_of self.old.coord m.now.tag) }
         ensures ok { IfOk result (λ g. Comes self.old wall envelope.now self.new g) }
         ensures err { OnErr result (self.new ≡ self.old) }
     {
@@ -316,8 +321,8 @@ impl Shard {
         self.on_acked(m)
     }
 
-    /// What is waited for is asked again. The messages are made before the shard's time goes on, since they depend on
-    /// what is coordinated and on the clock alone.
+    /// What is waited for is asked again. The messages are made before the shard's time goes on,
+    /// since they depend on what is coordinated and on the clock alone.
     fn deliver_nudge(&mut self, wall: u32, envelope: &Envelope) -> Result<Given, PartErr>
         requires { envelope.now.msg ≡ Msg.Nudge }
         ensures ok { IfOk result (λ g. Comes self.old wall envelope.now self.new g) }
@@ -334,14 +339,16 @@ impl Shard {
 
     /// A message that is no matter of a shard.
     fn deliver_other(&mut self, wall: u32, envelope: &Envelope) -> Given
-        requires { ruled (arrived self.old wall envelope.now) envelope.now.from envelope.now.msg ≡ quiet (arrived self.old wall envelope.now) }
+        requires { ruled (arrived self.old wall envelope.now) envelope.now.from envelope.now.msg
+            ≡ quiet (arrived self.old wall envelope.now) }
         ensures { Comes self.old wall envelope.now self.new result }
     {
         self.arrive(wall, envelope);
         Given::quiet(self.alloc)
     }
 
-    /// What comes of a message that is delivered at this wall. At want of memory that isn't told the shard is as it was.
+    /// What comes of a message that is delivered at this wall. At want of memory that isn't told
+    /// the shard is as it was.
     pub(crate) fn deliver(&mut self, wall: u32, envelope: &Envelope) -> Result<Given, PartErr>
         ensures ok { IfOk result (λ g. Comes self.old wall envelope.now self.new g) }
         ensures err { OnErr result (self.new ≡ self.old) }

@@ -9,8 +9,8 @@ use std::alloc::{AllocError, Global};
 use txn_types::{Envelope, Envelopes, Msg, NodeId, Outcome, Tag, Told, Ts};
 use version_store::Held;
 
-/// The record that a message makes, what is sent once it is durable, and the document that is held, where the event is
-/// to come again.
+/// The record that a message makes, what is sent once it is durable, and the document that is held,
+/// where the event is to come again.
 #[derive(Drop)]
 pub struct Given {
     pub rec: Option<Rec>,

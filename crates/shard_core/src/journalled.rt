@@ -9,10 +9,11 @@ use journal_rec::Rec;
 use machine::Machine;
 use txn_types::{NodeAnswer, NodeEvent};
 
-/// A machine that is a shard's node: its core, and a journal that holds a step's records before anything is given out.
+/// A machine that is a shard's node: its core, and a journal that holds a step's records before
+/// anything is given out.
 pub trait Journalled: Machine<Event = NodeEvent, Answer = NodeAnswer> {
-    /// The core, the journal's records and those in hand, what was resolved before the step that failed, and the count of
-    /// the disk's faults.
+    /// The core, the journal's records and those in hand, what was resolved before the step that
+    /// failed, and the count of the disk's faults.
     ghost state: { Self → NodeState };
 
     /// The core.
@@ -27,6 +28,7 @@ pub trait Journalled: Machine<Event = NodeEvent, Answer = NodeAnswer> {
     fn faults(&self) -> u64
         ensures { result ≡ (state self.now).faults };
 
-    /// Each `take` is a step of the core, and then the appends of its ceiling and of its record, or the first that fails.
+    /// Each `take` is a step of the core, and then the appends of its ceiling and of its record, or
+    /// the first that fails.
     ghost steps: { (old new : Self) (event : Event) (answer : Answer) → Self.takes old event answer new → ShardTakes (state old) event answer (state new) };
 }

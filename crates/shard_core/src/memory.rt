@@ -43,7 +43,8 @@ impl Shard {
 
     /// It is told as the end of a transaction.
     pub(crate) fn tell_end(&mut self, slip: Slip, to: NodeId, lsid: &Lsid, tag: &Tag) -> Given
-        ensures { Gives (told_by self.old lsid.now tag.now (outcome self.old tag.now (told.Aborted Cause.Memory) to)) self.new result }
+        ensures { Gives (told_by self.old lsid.now tag.now
+            (outcome self.old tag.now (told.Aborted Cause.Memory) to)) self.new result }
     {
         let told = Told::Aborted {
             cause: Cause::Memory,
@@ -54,7 +55,8 @@ impl Shard {
 
     /// It is told as an answer to a statement.
     pub(crate) fn tell_answer(&mut self, slip: Slip, to: NodeId, m: &Statement) -> Given
-        ensures { Gives (told_by self.old m.now.lsid m.now.tag (answer self.old to m.now 0 (Err Cause.Memory))) self.new result }
+        ensures { Gives (told_by self.old m.now.lsid m.now.tag
+            (answer self.old to m.now 0 (Err Cause.Memory))) self.new result }
     {
         let msg = Msg::Answer(Answer {
             tag: m.tag,
@@ -69,7 +71,11 @@ impl Shard {
 
     /// It is told as a vote.
     pub(crate) fn tell_vote(&mut self, slip: Slip, m: &Prepare) -> Given
-        ensures { Gives (told_by self.old m.now.lsid m.now.tag (node.Shard m.now.coordinator, Msg.Vote (record { tag = m.now.tag; shard = self.old.part.shard; vote = Err Cause.Memory }))) self.new result }
+        ensures { Gives (told_by self.old m.now.lsid m.now.tag (
+          node.Shard m.now.coordinator,
+          Msg.Vote
+              (record { tag = m.now.tag; shard = self.old.part.shard; vote = Err Cause.Memory }),
+        )) self.new result }
     {
         let msg = Msg::Vote(Vote {
             tag: m.tag,

@@ -38,10 +38,12 @@ impl Shard {
         from: NodeId,
         m: &Commit,
     ) -> Result<Given, PartErr>
-        requires clock { (self.old.clock.last ≡ last_time) ⊎ (next_time self.old.clock.last self.old.wall ≤ self.old.clock.ceiling) }
+        requires clock { (self.old.clock.last ≡ last_time)
+            ⊎ (next_time self.old.clock.last self.old.wall ≤ self.old.clock.ceiling) }
         ensures ok { IfOk result (λ g. Gives (on_commit self.old from m.now) self.new g) }
         ensures err { OnErr result (self.new ≡ self.old) }
-        ensures memory { OnErr result (may_tell_memory self.old.part m.now.lsid m.now.number m.now.tag ≡ true) }
+        ensures memory { OnErr result
+            (may_tell_memory self.old.part m.now.lsid m.now.number m.now.tag ≡ true) }
     {
         let (shard, boot, wall) = (self.part.shard(), self.part.boot(), self.wall);
         let Done { told, rec } = match self.part.commit(&mut self.clock, wall, m) {
@@ -64,7 +66,8 @@ impl Shard {
         })
     }
 
-    /// An abort that is asked for; a transaction that is coordinated here isn't ended so. It takes no memory.
+    /// An abort that is asked for; a transaction that is coordinated here isn't ended so. It takes
+    /// no memory.
     pub(crate) fn on_abort(&mut self, m: &Abort) -> Given
         ensures { Gives (on_abort self.old m.now) self.new result }
     {
@@ -76,10 +79,12 @@ impl Shard {
 
     /// The coordinator asks for a vote.
     pub(crate) fn on_prepare(&mut self, slip: Slip, m: &Prepare) -> Result<Given, PartErr>
-        requires clock { (self.old.clock.last ≡ last_time) ⊎ (next_time self.old.clock.last self.old.wall ≤ self.old.clock.ceiling) }
+        requires clock { (self.old.clock.last ≡ last_time)
+            ⊎ (next_time self.old.clock.last self.old.wall ≤ self.old.clock.ceiling) }
         ensures ok { IfOk result (λ g. Gives (on_prepare self.old m.now) self.new g) }
         ensures err { OnErr result (self.new ≡ self.old) }
-        ensures memory { OnErr result (may_tell_memory self.old.part m.now.lsid m.now.number m.now.tag ≡ true) }
+        ensures memory { OnErr result
+            (may_tell_memory self.old.part m.now.lsid m.now.number m.now.tag ≡ true) }
     {
         let (shard, wall, tag) = (self.part.shard(), self.wall, m.tag);
         let Voted { vote, rec } = match self.part.prepare(&mut self.clock, wall, m) {
@@ -102,7 +107,8 @@ impl Shard {
         })
     }
 
-    /// The coordinator tells its decision, which is acknowledged, whatever it changes. It takes no memory.
+    /// The coordinator tells its decision, which is acknowledged, whatever it changes. It takes no
+    /// memory.
     pub(crate) fn on_decide(&mut self, slip: Slip, from: NodeId, m: &Decide) -> Given
         ensures { Gives (on_decide self.old from m.now) self.new result }
     {

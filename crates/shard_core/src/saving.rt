@@ -1,4 +1,5 @@
-//! What is kept of a shard before a message comes, so that nothing has changed where memory is wanted behind it.
+//! What is kept of a shard before a message comes, so that nothing has changed where memory is
+//! wanted behind it.
 ghost use Rattle.std.specs.Prelude.{◌≡◌, max, IfOk, MatchOption};
 ghost use Rattle.participant.specs.Expiry.{expire};
 ghost use Rattle.shard_core.specs.Saved.{restored, IsSaved};
@@ -19,7 +20,8 @@ pub struct Saved {
 impl Shard {
     /// A copy of the part, where something expires at this wall.
     fn saved_part(&self, wall: u32) -> Result<Option<Participant>, AllocError>
-        ensures { IfOk result (λ part. MatchOption part (expire self.now.part (max self.now.wall wall) ≡ self.now.part) (λ p. p ≡ self.now.part)) }
+        ensures { IfOk result (λ part. MatchOption part (expire self.now.part
+            (max self.now.wall wall) ≡ self.now.part) (λ p. p ≡ self.now.part)) }
     {
         if self.part.has_expired(self.wall.max(wall)) {
             match self.part.copy() {

@@ -11,8 +11,9 @@ use std::alloc::Global;
 use std::marker::Model;
 use txn_types::{HybridClock, Lsid, Ts, Write};
 
-/// A shard's core: the greatest wall that it has met, in seconds since 1970; its clock; its part in transactions; those
-/// that it coordinates; and the count of faults of its disk, where it was stopped.
+/// A shard's core: the greatest wall that it has met, in seconds since 1970; its clock; its part in
+/// transactions; those that it coordinates; and the count of faults of its disk, where it was
+/// stopped.
 #[derive(Drop)]
 pub struct Shard {
     pub(crate) alloc: Global,
@@ -36,8 +37,8 @@ impl Model for Shard {
 }
 
 impl Shard {
-    /// A shard that starts with the state of its journal's records. Its clock stands at the last ceiling, since it may
-    /// have told any time below.
+    /// A shard that starts with the state of its journal's records. Its clock stands at the last
+    /// ceiling, since it may have told any time below.
     pub fn of(alloc: Global, shard: u16, image: Image) -> Shard
         ensures { result ≡ core_of shard image }
     {
@@ -77,15 +78,16 @@ impl Shard {
         self.part.boot()
     }
 
-    /// What the session's live transaction has written so far, in its order; nothing, where none is live.
+    /// What the session's live transaction has written so far, in its order; nothing, where none is
+    /// live.
     pub fn writes_of<'a>(&'a self, lsid: &Lsid) -> &'a [Write]
         ensures { result.now ≡ own_of (open_of self.now.part lsid.now) }
     {
         self.part.writes_of(lsid)
     }
 
-    /// The clock, or one below the least prepare timestamp that stands: no later commit is at or below it. It goes
-    /// through all sessions.
+    /// The clock, or one below the least prepare timestamp that stands: no later commit is at or
+    /// below it. It goes through all sessions.
     pub fn resolved(&self) -> Ts
         ensures { result ≡ resolved_of self.now }
     {

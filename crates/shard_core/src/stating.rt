@@ -23,7 +23,8 @@ impl Shard {
         read_at: Ts,
         outcome: Result<(OpReply, bool), Cause>,
     ) -> Given
-        ensures { result ≡ given_by (sends self.now (answer self.now to m.now read_at outcome ∷ [])) }
+        ensures { result
+            ≡ given_by (sends self.now (answer self.now to m.now read_at outcome ∷ [])) }
     {
         let msg = Msg::Answer(Answer {
             tag: m.tag,
@@ -63,11 +64,13 @@ impl Shard {
         from: NodeId,
         m: &Statement,
     ) -> Result<Given, PartErr>
-        requires clock { (self.old.clock.last ≡ last_time) ⊎ (next_time self.old.clock.last self.old.wall ≤ self.old.clock.ceiling) }
+        requires clock { (self.old.clock.last ≡ last_time)
+            ⊎ (next_time self.old.clock.last self.old.wall ≤ self.old.clock.ceiling) }
         requires time { m.now.read_at ≤ self.old.clock.last }
         ensures ok { IfOk result (λ g. Gives (on_statement self.old from m.now) self.new g) }
         ensures err { OnErr result (self.new ≡ self.old) }
-        ensures memory { OnErr result (may_tell_memory self.old.part m.now.lsid m.now.number m.now.tag ≡ true) }
+        ensures memory { OnErr result
+            (may_tell_memory self.old.part m.now.lsid m.now.number m.now.tag ≡ true) }
         ensures once { OnErr result (elsewhere self.old.part m.now.lsid m.now.tag ≡ false) }
     {
         if self.part.elsewhere(&m.lsid, m.tag) {

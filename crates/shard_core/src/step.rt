@@ -18,8 +18,8 @@ use std::alloc::Global;
 use txn_types::{Cause, Envelope, Envelopes, Happening, Msg, NodeEvent, Replies, Ts};
 use version_store::Held;
 
-/// What a node gives out at an event: messages, replies to connections, and the number of the refusal that closes a
-/// connection.
+/// What a node gives out at an event: messages, replies to connections, and the number of the
+/// refusal that closes a connection.
 #[derive(Drop)]
 pub struct Outbox {
     pub envelopes: Envelopes,
@@ -40,8 +40,8 @@ impl Outbox {
     }
 }
 
-/// What is to be made durable before a step's messages are given out, the ceiling and then the record; and the document
-/// that is held, where the event may be given again.
+/// What is to be made durable before a step's messages are given out, the ceiling and then the
+/// record; and the document that is held, where the event may be given again.
 #[derive(Drop)]
 pub struct Step {
     pub ceiling: Option<Ts>,
@@ -58,7 +58,8 @@ pub enum StepErr {
     Stopped,
 }
 
-/// Gives out what a rule gave, in place of what stood there, and leaves what is to be made durable before.
+/// Gives out what a rule gave, in place of what stood there, and leaves what is to be made durable
+/// before.
 fn hand_out(alloc: Global, out: &mut Outbox, ceiling: Option<Ts>, given: Given) -> Step
     ensures step { result ≡ step_of ceiling given }
     ensures out { out.new ≡ given_to given }
@@ -81,13 +82,15 @@ fn hand_out(alloc: Global, out: &mut Outbox, ceiling: Option<Ts>, given: Given) 
 }
 
 impl Shard {
-    /// A step: what an event changes. What is to be made durable, in the order of the answer, comes before what is given
-    /// out to `out`, in place of what stood there. At a refusal nothing has changed. Copies of the shard's part are made
-    /// only where something expires at a message of a transaction that is coordinated here.
+    /// A step: what an event changes. What is to be made durable, in the order of the answer, comes
+    /// before what is given out to `out`, in place of what stood there. At a refusal nothing has
+    /// changed. Copies of the shard's part are made only where something expires at a message of a
+    /// transaction that is coordinated here.
     pub fn step(&mut self, event: &NodeEvent, out: &mut Outbox) -> Result<Step, StepErr>
         ensures step { Steps self.old event.now (said self.new out.new result) }
         ensures err { OnErr result ((self.new ≡ self.old) × (out.new ≡ out.old)) }
-        ensures stopped { (result ≡ Err StepErr.Stopped) ↔ ((core_step Ample self.old event.now).answer ≡ reply.Stopped) }
+        ensures stopped { (result ≡ Err StepErr.Stopped)
+            ↔ ((core_step Ample self.old event.now).answer ≡ reply.Stopped) }
     {
         match self.stopped {
             Some(faults) => self.refuse(faults, event, out),
@@ -100,7 +103,8 @@ impl Shard {
         requires { self.now.stopped ≡ Some faults }
         ensures step { Steps self.now event.now (said self.now out.new result) }
         ensures err { OnErr result (out.new ≡ out.old) }
-        ensures stopped { (result ≡ Err StepErr.Stopped) ↔ ((core_step Ample self.now event.now).answer ≡ reply.Stopped) }
+        ensures stopped { (result ≡ Err StepErr.Stopped)
+            ↔ ((core_step Ample self.now event.now).answer ≡ reply.Stopped) }
     {
         let Happening::Deliver(envelope) = &event.what else {
             return Err(StepErr::Stopped);
@@ -150,7 +154,8 @@ impl Shard {
         out: &mut Outbox,
     ) -> Result<Step, StepErr>
         requires { self.old.stopped ≡ None }
-        ensures step { Steps self.old (record { wall = wall; what = what.Deliver envelope.now }) (said self.new out.new result) }
+        ensures step { Steps self.old (record { wall = wall; what = what.Deliver envelope.now })
+            (said self.new out.new result) }
         ensures err { OnErr result ((self.new ≡ self.old) × (out.new ≡ out.old)) }
         ensures running { result ≢ Err StepErr.Stopped }
     {
@@ -163,7 +168,8 @@ impl Shard {
 
     /// What is waited for is asked again, with messages that are made before anything expires.
     fn resend(&mut self, wall: u32) -> Result<Given, PartErr>
-        ensures ok { IfOk result (λ g. Gives (on_resend (expired (walled self.old wall))) self.new g) }
+        ensures ok { IfOk result
+            (λ g. Gives (on_resend (expired (walled self.old wall))) self.new g) }
         ensures err { OnErr result (self.new ≡ self.old) }
     {
         match self.resends(self.clock.last) {
@@ -178,7 +184,8 @@ impl Shard {
     /// The event that asks again.
     fn run_resend(&mut self, wall: u32, out: &mut Outbox) -> Result<Step, StepErr>
         requires { self.old.stopped ≡ None }
-        ensures step { Steps self.old (record { wall = wall; what = what.Resend }) (said self.new out.new result) }
+        ensures step { Steps self.old (record { wall = wall; what = what.Resend })
+            (said self.new out.new result) }
         ensures err { OnErr result ((self.new ≡ self.old) × (out.new ≡ out.old)) }
         ensures running { result ≢ Err StepErr.Stopped }
     {

@@ -35,7 +35,8 @@ pub fn reach(last: Ts, wall: u32, time: Ts, read_at: Ts) -> Ts
 
 /// The ceiling that a message asks of this clock at this wall.
 fn asked_of(clock: &HybridClock, wall: u32, envelope: &Envelope) -> Option<Ts>
-    ensures { result ≡ ceiling_for (record { last = clock.now.last; ceiling = clock.now.ceiling }) (reach clock.now.last wall envelope.now.time (read_at_of envelope.now.msg)) }
+    ensures { result ≡ ceiling_for (record { last = clock.now.last; ceiling = clock.now.ceiling })
+        (reach clock.now.last wall envelope.now.time (read_at_of envelope.now.msg)) }
 {
     let reached = reach(clock.last, wall, envelope.time, read_at_of(&envelope.msg));
     if clock.ceiling.0 < reached.0 {
@@ -54,7 +55,8 @@ fn latest(last: Ts, time: Ts, read_at: Ts) -> Ts
 
 /// Lets the clock go on up to this ceiling, where there is one.
 fn raise_if(clock: &mut HybridClock, bound: Option<Ts>)
-    ensures ceiling { clock.new.ceiling ≡ (raised (record { last = clock.old.last; ceiling = clock.old.ceiling }) bound).ceiling }
+    ensures ceiling { clock.new.ceiling
+        ≡ (raised (record { last = clock.old.last; ceiling = clock.old.ceiling }) bound).ceiling }
     ensures last { clock.new.last ≡ clock.old.last }
 {
     if let Some(bound) = bound {
@@ -73,7 +75,8 @@ fn advance(clock: &mut HybridClock, to: Ts)
     }
 }
 
-/// A clock with this ceiling of its own, behind the one that a message which names these times asks for.
+/// A clock with this ceiling of its own, behind the one that a message which names these times asks
+/// for.
 fn meet_times(
     clock: &mut HybridClock,
     wall: u32,
@@ -83,10 +86,14 @@ fn meet_times(
     bound: Option<Ts>,
 )
     requires own { ceiling ≡ clock.old.ceiling }
-    requires bound { bound ≡ ceiling_for (record { last = clock.old.last; ceiling = clock.old.ceiling }) (reach clock.old.last wall time read_at) }
+    requires bound { bound
+        ≡ ceiling_for (record { last = clock.old.last; ceiling = clock.old.ceiling })
+        (reach clock.old.last wall time read_at) }
     ensures last { clock.new.last ≡ max (max clock.old.last time) read_at }
-    ensures ceiling { clock.new.ceiling ≡ (raised (record { last = clock.old.last; ceiling = clock.old.ceiling }) bound).ceiling }
-    ensures ticks { (clock.new.last ≡ last_time) ⊎ (next_time clock.new.last wall ≤ clock.new.ceiling) }
+    ensures ceiling { clock.new.ceiling
+        ≡ (raised (record { last = clock.old.last; ceiling = clock.old.ceiling }) bound).ceiling }
+    ensures ticks { (clock.new.last ≡ last_time)
+        ⊎ (next_time clock.new.last wall ≤ clock.new.ceiling) }
 {
     raise_if(clock, bound);
     advance(clock, time);
@@ -109,10 +116,12 @@ impl Shard {
         asked_of(&self.clock, self.wall.max(wall), envelope)
     }
 
-    /// With the ceiling that a delivered message asks for, and the clock at or above the message's times.
+    /// With the ceiling that a delivered message asks for, and the clock at or above the message's
+    /// times.
     fn meet(&mut self, envelope: &Envelope)
         ensures met { self.new ≡ met self.old envelope.now }
-        ensures clock { (self.new.clock.last ≡ last_time) ⊎ (next_time self.new.clock.last self.new.wall ≤ self.new.clock.ceiling) }
+        ensures clock { (self.new.clock.last ≡ last_time)
+            ⊎ (next_time self.new.clock.last self.new.wall ≤ self.new.clock.ceiling) }
         ensures time { read_at_of envelope.now.msg ≤ self.new.clock.last }
     {
         let bound = asked_of(&self.clock, self.wall, envelope);
@@ -121,11 +130,13 @@ impl Shard {
         meet_times(&mut self.clock, wall, time, read_at, ceiling, bound);
     }
 
-    /// A delivered message has come: first the wall, then what has expired, then the message's times.
+    /// A delivered message has come: first the wall, then what has expired, then the message's
+    /// times.
     #[tactic(auto, unfolding(crate::specs::Arrived::arrived))]
     pub(crate) fn arrive(&mut self, wall: u32, envelope: &Envelope)
         ensures arrived { self.new ≡ arrived self.old wall envelope.now }
-        ensures clock { (self.new.clock.last ≡ last_time) ⊎ (next_time self.new.clock.last self.new.wall ≤ self.new.clock.ceiling) }
+        ensures clock { (self.new.clock.last ≡ last_time)
+            ⊎ (next_time self.new.clock.last self.new.wall ≤ self.new.clock.ceiling) }
         ensures time { read_at_of envelope.now.msg ≤ self.new.clock.last }
     {
         self.enter(wall);

@@ -1,6 +1,8 @@
--- What belongs to the state that records leave, each of which could follow those before it: the sessions, the prepared
--- transactions and the versions are of one piece, and no transaction is live.
-use Rattle.std.specs.Prelude.{◌≡◌, ◌≤◌, ◌<◌, ℕ, List, [], ◌∷◌, map, find, length, Option, Some, option_and_then, IfSome, IsSomeAnd}
+-- What belongs to the state that records leave, each of which could follow those before it: the
+-- sessions, the prepared transactions and the versions are of one piece, and no transaction is
+-- live.
+use Rattle.std.specs.Prelude.{◌≡◌, ◌≤◌, ◌<◌, ℕ, List, [], ◌∷◌, map, find, length, Option, Some}
+use Rattle.std.specs.Prelude.{option_and_then, IfSome, IsSomeAnd}
 use Rattle.std.specs.List.{AllByRecursion}
 use Rattle.txn_types.specs.Order.{same_tag}
 use Rattle.txn_types.specs.declared.names.Tag.{Tag}
@@ -24,7 +26,8 @@ use Rattle.shard_image.specs.Image.{Image}
 -- the writes of a record rise by document, as its bytes have them
 abbrev pub IsWritten : Rec → Type 0
 IsWritten (rec.Commit tag lsid number read_at at writes) = Rises place_cmp (map placed writes)
-IsWritten (rec.Prepared tag lsid number boot read_at at coordinator writes) = Rises place_cmp (map placed writes)
+IsWritten (rec.Prepared tag lsid number boot read_at at coordinator writes) =
+    Rises place_cmp (map placed writes)
 IsWritten other = Unit {0}
 
 abbrev pub AreWritten : List Rec → Type 0
@@ -38,26 +41,29 @@ pending_of pending tag = find (λ q. same_tag q.tag tag) pending
 abbrev pub prepare_time : Table → Lsid → Option ℕ
 prepare_time sessions lsid = option_and_then (λ s. prepared_at s.state) (session_of sessions lsid)
 
--- a version that this transaction prepared at this time stands above these versions: they are commits below that time,
--- the newest at or below what the transaction read at
+-- a version that this transaction prepared at this time stands above these versions: they are
+-- commits below that time, the newest at or below what the transaction read at
 pub record IsHeld (sessions : Table) (at : ℕ) (versions : List Version) (q : Pending) : Type 0 where
   pub below : FallBelow at versions
   pub free : IfSome (newest_of versions) (λ commit. commit ≤ q.read_at)
   pub time : prepare_time sessions q.lsid ≡ Some at
 
--- a key has a version, and they stand newest first; one that isn't a commit's is of a prepared transaction
+-- a key has a version, and they stand newest first; one that isn't a commit's is of a prepared
+-- transaction
 abbrev pub IsFront : List Pending → Table → List Version → Stamp → Type 0
 IsFront pending sessions versions (Unfinished tag) = ⊥
-IsFront pending sessions versions (Prepared tag at) = IsSomeAnd (pending_of pending tag) (IsHeld sessions at versions)
+IsFront pending sessions versions (Prepared tag at) =
+    IsSomeAnd (pending_of pending tag) (IsHeld sessions at versions)
 IsFront pending sessions versions (At at) = FallBelow at versions
 
 abbrev pub IsKey : List Pending → Table → List Version → Type 0
 IsKey pending sessions [] = ⊥
 IsKey pending sessions (version ∷ versions) = IsFront pending sessions versions version.stamp
 
--- the session's transaction is this one, prepared at a time above what it read at; it alone has its tag, and its keys are
--- those with a version of it
-pub record IsPending (pending : List Pending) (sessions : Table) (store : Versions) (q : Pending) (s : Session) (at : ℕ) : Type 0 where
+-- the session's transaction is this one, prepared at a time above what it read at; it alone has its
+-- tag, and its keys are those with a version of it
+pub record IsPending (pending : List Pending) (sessions : Table) (store : Versions) (q : Pending)
+    (s : Session) (at : ℕ) : Type 0 where
   pub first : pending_of pending q.tag ≡ Some q
   pub session : session_of sessions q.lsid ≡ Some s
   pub tag : s.tag ≡ q.tag
@@ -71,7 +77,8 @@ Pends pending sessions store q = (s : Session) × (at : ℕ) × IsPending pendin
 -- a session whose transaction is prepared has it among the prepared ones
 abbrev pub HasIts : List Pending → Lsid → Tag → SessionState → Type 0
 HasIts pending lsid tag state.Live = ⊥
-HasIts pending lsid tag (state.Prepared at coordinator) = IsSomeAnd (pending_of pending tag) (λ q. q.lsid ≡ lsid)
+HasIts pending lsid tag (state.Prepared at coordinator) =
+    IsSomeAnd (pending_of pending tag) (λ q. q.lsid ≡ lsid)
 HasIts pending lsid tag (state.Committed at) = Unit {0}
 HasIts pending lsid tag state.Released = Unit {0}
 HasIts pending lsid tag (state.Aborted why read_at) = Unit {0}
@@ -80,6 +87,7 @@ pub record IsImage (i : Image) : Type 0 where
   pub rises : Rises place_cmp i.store
   pub keys : AllByRecursion (λ key. IsKey i.pending i.sessions key.1) i.store
   pub pending : AllByRecursion (λ q. Pends i.pending i.sessions i.store q) i.pending
-  pub sessions : (lsid : Lsid) (s : Session) → session_of i.sessions lsid ≡ Some s → HasIts i.pending lsid s.tag s.state
+  pub sessions : (lsid : Lsid) (s : Session) → session_of i.sessions lsid ≡ Some s
+      → HasIts i.pending lsid s.tag s.state
   pub limit : i.sessions.limit ≡ most_sessions
   pub most : length i.sessions.entries ≤ most_sessions

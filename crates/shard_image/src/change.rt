@@ -95,7 +95,8 @@ fn lay_prepared(
     ensures store { OnOk result (store.new ≡ with_writes q.tag store.old writes.now) }
     ensures sessions { OnOk result (sessions.new ≡ with_session sessions.old q.lsid session) }
     ensures pending { OnOk result (pending.new ≡ pending.old ++ q ∷ []) }
-    ensures err { OnErr result ((store.new ≡ store.old) × (sessions.new ≡ sessions.old) × (pending.new ≡ pending.old)) }
+    ensures err { OnErr result
+        ((store.new ≡ store.old) × (sessions.new ≡ sessions.old) × (pending.new ≡ pending.old)) }
     ensures memory { OnErr result (result ≡ Err ImageErr.Memory) }
 {
     let tag = q.tag;
@@ -112,7 +113,8 @@ fn lay_prepared(
 
 /// Commits or drops what a prepared transaction wrote.
 fn decide_pending(store: &mut Store, pending: &[Pending], tag: &Tag, at: Option<Ts>)
-    requires { IsSomeAnd (pending_of pending.now tag.now) (λ q. q.keys ≡ keys_of tag.now store.old) }
+    requires { IsSomeAnd (pending_of pending.now tag.now)
+        (λ q. q.keys ≡ keys_of tag.now store.old) }
     ensures { store.new ≡ decided tag.now at store.old }
 {
     if let Some(q) = find_pending(pending, tag) {
@@ -148,7 +150,8 @@ fn behind(decision: &Decision) -> SessionState
 
 /// The session behind a decision.
 fn session_behind(d: &Decided) -> Session
-    ensures { result ≡ record { number = d.now.number; tag = d.now.tag; state = state_behind d.now.decision } }
+    ensures { result
+        ≡ record { number = d.now.number; tag = d.now.tag; state = state_behind d.now.decision } }
 {
     Session {
         number: d.number,
@@ -186,10 +189,12 @@ impl Image {
         at: Ts,
         writes: &Writes,
     ) -> Result<(), ImageErr>
-        requires follows { can_follow_image self.old (rec.Commit tag.now lsid.now number read_at at writes.now) ≡ true }
+        requires follows { can_follow_image self.old (rec.Commit tag.now lsid.now number read_at at
+            writes.now) ≡ true }
         requires written { IsWritten (rec.Commit tag.now lsid.now number read_at at writes.now) }
         requires room { self.old.count < 2 ^ 64 - 1 }
-        ensures ok { OnOk result (self.new ≡ with_record self.old (rec.Commit tag.now lsid.now number read_at at writes.now)) }
+        ensures ok { OnOk result (self.new
+            ≡ with_record self.old (rec.Commit tag.now lsid.now number read_at at writes.now)) }
         ensures err { OnErr result (self.new ≡ self.old) }
         ensures memory { OnErr result (result ≡ Err ImageErr.Memory) }
     {
@@ -225,11 +230,14 @@ impl Image {
         boot: u32,
         writes: &Writes,
     ) -> Result<(), ImageErr>
-        requires follows { can_follow_image self.old (rec.Prepared q.tag q.lsid number boot q.read_at at coordinator writes.now) ≡ true }
-        requires written { IsWritten (rec.Prepared q.tag q.lsid number boot q.read_at at coordinator writes.now) }
+        requires follows { can_follow_image self.old (rec.Prepared q.tag q.lsid number boot
+            q.read_at at coordinator writes.now) ≡ true }
+        requires written { IsWritten (rec.Prepared q.tag q.lsid number boot q.read_at at coordinator
+            writes.now) }
         requires keys { q.keys ≡ map place_of writes.now }
         requires room { self.old.count < 2 ^ 64 - 1 }
-        ensures ok { OnOk result (self.new ≡ with_record self.old (rec.Prepared q.tag q.lsid number boot q.read_at at coordinator writes.now)) }
+        ensures ok { OnOk result (self.new ≡ with_record self.old
+            (rec.Prepared q.tag q.lsid number boot q.read_at at coordinator writes.now)) }
         ensures err { OnErr result (self.new ≡ self.old) }
         ensures memory { OnErr result (result ≡ Err ImageErr.Memory) }
     {
@@ -272,9 +280,11 @@ impl Image {
     }
 
     fn start(&mut self, tag: &Tag, lsid: &Lsid, number: i64, parts: &Parts) -> Result<(), ImageErr>
-        requires follows { can_follow_image self.old (rec.CoordStart tag.now lsid.now number parts.now) ≡ true }
+        requires follows { can_follow_image self.old (rec.CoordStart tag.now lsid.now number
+            parts.now) ≡ true }
         requires room { self.old.count < 2 ^ 64 - 1 }
-        ensures ok { OnOk result (self.new ≡ with_record self.old (rec.CoordStart tag.now lsid.now number parts.now)) }
+        ensures ok { OnOk result
+            (self.new ≡ with_record self.old (rec.CoordStart tag.now lsid.now number parts.now)) }
         ensures err { OnErr result (self.new ≡ self.old) }
         ensures memory { OnErr result (result ≡ Err ImageErr.Memory) }
     {
@@ -320,10 +330,13 @@ fn prepare_copied(
     coordinator: u16,
     writes: &Writes,
 ) -> Result<(), ImageErr>
-    requires follows { can_follow_image image.old (rec.Prepared tag.now lsid.now number boot read_at at coordinator writes.now) ≡ true }
-    requires written { IsWritten (rec.Prepared tag.now lsid.now number boot read_at at coordinator writes.now) }
+    requires follows { can_follow_image image.old (rec.Prepared tag.now lsid.now number boot read_at
+        at coordinator writes.now) ≡ true }
+    requires written { IsWritten (rec.Prepared tag.now lsid.now number boot read_at at coordinator
+        writes.now) }
     requires room { image.old.count < 2 ^ 64 - 1 }
-    ensures ok { OnOk result (image.new ≡ with_record image.old (rec.Prepared tag.now lsid.now number boot read_at at coordinator writes.now)) }
+    ensures ok { OnOk result (image.new ≡ with_record image.old
+        (rec.Prepared tag.now lsid.now number boot read_at at coordinator writes.now)) }
     ensures err { OnErr result (image.new ≡ image.old) }
     ensures memory { OnErr result (result ≡ Err ImageErr.Memory) }
 {
@@ -406,7 +419,8 @@ fn change(alloc: Global, image: &mut Image, rec: &Rec) -> Result<(), ImageErr>
     }
 }
 
-/// Adds a record to a state. The writes of a record rise by namespace and id, as its bytes have them.
+/// Adds a record to a state. The writes of a record rise by namespace and id, as its bytes have
+/// them.
 pub fn apply(alloc: Global, image: &mut Image, rec: &Rec) -> Result<(), ImageErr>
     requires written { IsWritten rec.now }
     requires room { image.old.count < 2 ^ 64 - 1 }

@@ -33,8 +33,8 @@ impl<T: Drop> From<AllocFailed<T>> for ImageErr {
     }
 }
 
-/// What the rules on order ask of the earlier records beyond the rest of the state: how many there were, and the
-/// greatest timestamp of a commit or a prepared transaction among them.
+/// What the rules on order ask of the earlier records beyond the rest of the state: how many there
+/// were, and the greatest timestamp of a commit or a prepared transaction among them.
 #[derive(Clone, Copy)]
 pub struct Place {
     pub count: u64,

@@ -1,5 +1,5 @@
-//! The state that the records of a journal leave at a shard: boots and ceilings, sessions, versions, prepared transactions
-//! and what is coordinated, one record after the other.
+//! The state that the records of a journal leave at a shard: boots and ceilings, sessions,
+//! versions, prepared transactions and what is coordinated, one record after the other.
 #![tactic(auto)]
 
 mod change;

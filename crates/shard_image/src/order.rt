@@ -43,7 +43,8 @@ pub fn find_pending<'a>(pending: &'a [Pending], tag: &Tag) -> Option<&'a Pending
     None
 }
 
-/// Whether the timestamp is at or below the ceiling, above what was read at, and above each earlier one.
+/// Whether the timestamp is at or below the ceiling, above what was read at, and above each earlier
+/// one.
 fn is_next_time(image: &Image, read_at: Ts, at: Ts) -> bool
     ensures { result ≡ journal.is_next_time (ledger_of image.now) read_at at }
 {
@@ -82,14 +83,16 @@ fn is_undisturbed(image: &Image, lsid: &Lsid, tag: &Tag) -> bool
 }
 
 fn are_undisturbed(pending: &[Pending], lsid: &Lsid, tag: &Tag) -> bool
-    ensures { result ≡ (not (list_any (λ q. same_lsid q.lsid lsid.now) pending.now) && is_none (pending_of pending.now tag.now)) }
+    ensures { result ≡ (not (list_any (λ q. same_lsid q.lsid lsid.now) pending.now)
+        && is_none (pending_of pending.now tag.now)) }
 {
     !has_session(pending, lsid) && find_pending(pending, tag).is_none()
 }
 
 /// Whether nothing stands against a write.
 fn is_free(store: &Store, tag: &Tag, read_at: Ts, write: &Write) -> bool
-    ensures { result ≡ is_none (against read_at tag.now (versions_of store.now (place_of write.now))) }
+    ensures { result
+        ≡ is_none (against read_at tag.now (versions_of store.now (place_of write.now))) }
 {
     match write {
         Write::Put { ns, id, .. } => store.against(ns, id, read_at, *tag).is_none(),
@@ -99,7 +102,8 @@ fn is_free(store: &Store, tag: &Tag, read_at: Ts, write: &Write) -> bool
 
 /// Whether nothing stands against any of the writes.
 fn are_free(store: &Store, tag: &Tag, read_at: Ts, writes: &[Write]) -> bool
-    ensures { result ≡ list_all (λ write. is_none (against read_at tag.now (versions_of store.now (place_of write)))) writes.now }
+    ensures { result ≡ list_all (λ write.
+        is_none (against read_at tag.now (versions_of store.now (place_of write)))) writes.now }
 {
     for write in writes {
         if !is_free(store, tag, read_at, write) {
@@ -111,14 +115,18 @@ fn are_free(store: &Store, tag: &Tag, read_at: Ts, writes: &[Write]) -> bool
 
 /// Whether nothing stands against any of the writes.
 fn is_clear(image: &Image, tag: &Tag, read_at: Ts, writes: &[Write]) -> bool
-    ensures { result ≡ list_all (λ write. is_none (against read_at tag.now (versions_of image.now.store (place_of write)))) writes.now }
+    ensures { result ≡ list_all (λ write. is_none
+        (against read_at tag.now (versions_of image.now.store (place_of write)))) writes.now }
 {
     are_free(&image.store, tag, read_at, writes)
 }
 
-/// Whether the time and the session's number are next, and neither session nor tag has a prepared transaction.
+/// Whether the time and the session's number are next, and neither session nor tag has a prepared
+/// transaction.
 fn is_next(image: &Image, tag: &Tag, lsid: &Lsid, number: &i64, read_at: Ts, at: Ts) -> bool
-    ensures { result ≡ (journal.is_next_time (ledger_of image.now) read_at at && journal.is_next_number (ledger_of image.now) lsid.now number.now && journal.is_undisturbed (ledger_of image.now) lsid.now tag.now) }
+    ensures { result ≡ (journal.is_next_time (ledger_of image.now) read_at at
+        && journal.is_next_number (ledger_of image.now) lsid.now number.now
+        && journal.is_undisturbed (ledger_of image.now) lsid.now tag.now) }
 {
     is_next_time(image, read_at, at)
         && is_next_number(image, lsid, number)
@@ -135,7 +143,8 @@ fn can_write(
     at: Ts,
     writes: &Writes,
 ) -> bool
-    ensures { result ≡ journal.can_write (ledger_of image.now) tag.now lsid.now number.now read_at at writes.now }
+    ensures { result ≡ journal.can_write (ledger_of image.now) tag.now lsid.now number.now read_at
+        at writes.now }
 {
     let next = is_next(image, tag, lsid, number, read_at, at);
     let clear = is_clear(image, tag, read_at, writes.as_slice());
@@ -181,7 +190,8 @@ fn number_of(sessions: &Sessions, lsid: &Lsid) -> i64
 
 /// When the session's transaction was prepared, 0 where it isn't.
 fn prepared_at(sessions: &Sessions, lsid: &Lsid) -> Ts
-    ensures { result ≡ unwrap_or (option_and_then (λ s. prepared_at s.state) (session_of sessions.now lsid.now)) 0 }
+    ensures { result ≡ unwrap_or (option_and_then (λ s. prepared_at s.state)
+        (session_of sessions.now lsid.now)) 0 }
 {
     match sessions.find(lsid) {
         Some(session) => match &session.state {
@@ -192,7 +202,8 @@ fn prepared_at(sessions: &Sessions, lsid: &Lsid) -> Ts
     }
 }
 
-/// Whether the decision is of this prepared transaction, of its session and number, and at or above its timestamp.
+/// Whether the decision is of this prepared transaction, of its session and number, and at or above
+/// its timestamp.
 fn decides(sessions: &Sessions, q: &Pending, d: &Decided) -> bool
     ensures { result ≡ journal.decides d.now (option_map (standing_by sessions.now) (Some q.now)) }
 {
@@ -204,7 +215,8 @@ fn decides(sessions: &Sessions, q: &Pending, d: &Decided) -> bool
 
 /// Whether a prepared transaction of the tag stands, and the decision is of it.
 fn finds(sessions: &Sessions, pending: &[Pending], d: &Decided) -> bool
-    ensures { result ≡ journal.decides d.now (option_map (standing_by sessions.now) (pending_of pending.now d.now.tag)) }
+    ensures { result ≡ journal.decides d.now (option_map (standing_by sessions.now)
+        (pending_of pending.now d.now.tag)) }
 {
     match find_pending(pending, &d.tag) {
         Some(q) => decides(sessions, q, d),
@@ -213,14 +225,16 @@ fn finds(sessions: &Sessions, pending: &[Pending], d: &Decided) -> bool
 }
 
 fn is_decision(image: &Image, d: &Decided) -> bool
-    ensures { result ≡ journal.decides d.now (option_map (standing_by image.now.sessions) (pending_of image.now.pending d.now.tag)) }
+    ensures { result ≡ journal.decides d.now (option_map (standing_by image.now.sessions)
+        (pending_of image.now.pending d.now.tag)) }
 {
     finds(&image.sessions, image.pending.as_slice(), d)
 }
 
 /// Whether a prepared transaction can be decided so.
 fn can_decide(image: &Image, d: &Decided) -> bool
-    ensures { result ≡ (journal.is_below_ceiling (ledger_of image.now) d.now.decision && journal.decides d.now (standing_of (ledger_of image.now) d.now.tag)) }
+    ensures { result ≡ (journal.is_below_ceiling (ledger_of image.now) d.now.decision
+        && journal.decides d.now (standing_of (ledger_of image.now) d.now.tag)) }
 {
     let below = is_below_ceiling(image, &d.decision);
     let decides = is_decision(image, d);
@@ -274,7 +288,8 @@ fn coordination_in(image: &Image, tag: &Tag) -> Option<Option<Decision>>
 }
 
 fn can_restore(image: &Image, tag: &Tag, decision: &Decision) -> bool
-    ensures { result ≡ (journal.is_below_ceiling (ledger_of image.now) decision.now && journal.is_undecided (coordination_of (ledger_of image.now) tag.now)) }
+    ensures { result ≡ (journal.is_below_ceiling (ledger_of image.now) decision.now
+        && journal.is_undecided (coordination_of (ledger_of image.now) tag.now)) }
 {
     is_below_ceiling(image, decision) && is_undecided(coordination_in(image, tag))
 }

@@ -10,14 +10,15 @@ use Rattle.txn_semantics.specs.Writes.{write_set}
 use Rattle.single_node.specs.Right.{has_commit}
 use Rattle.single_node.specs.Serving.{State, writes_something}
 
--- a statement is the first of its transaction, was told what it means over all commits up to now, and committed where
--- it writes something
+-- a statement is the first of its transaction, was told what it means over all commits up to now,
+-- and committed where it writes something
 pub record GoodAnswer (s : State) (a : Answered) : Type 0 where
   pub first : a.k ≡ 1
   pub drawn : a.tag.serial ≤ s.serial
   pub seen : a.read_at ≤ s.last
   pub told : a.outcome ≡ reply_of (means s.entries [] a)
-  pub committed : IsTrue (writes_something (means s.entries [] a)) → IsTrue (has_commit a.tag s.entries)
+  pub committed : IsTrue (writes_something (means s.entries [] a))
+      → IsTrue (has_commit a.tag s.entries)
 
 -- a commit is of one answered statement, and holds what that wrote
 pub record GoodCommit (s : State) (e : Entry) : Type 0 where

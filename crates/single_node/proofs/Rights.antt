@@ -11,4 +11,5 @@ pub good_is_right : (s : State) → Good s → AnswersRight s
 good_is_right s g = (right s boots g, λ k d inside. (g.answers k d inside).committed)
 
 pub answers_right : (requests : List Request) → AnswersRight (served_all first_state requests)
-answers_right requests = good_is_right (served_all first_state requests) (all_good first_state requests first_good)
+answers_right requests =
+    good_is_right (served_all first_state requests) (all_good first_state requests first_good)

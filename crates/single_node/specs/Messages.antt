@@ -1,6 +1,7 @@
--- What the bytes of a message ask, and what they are answered. Which faults close a connection is this project's choice,
--- as are the numbers of faults.
-use Rattle.std.specs.Prelude.{ℕ, Bool, true, false, List, [], ◌∷◌, length, Option, Some, None, Result, Ok, Err, codes, nat_lt, if◌then◌else◌}
+-- What the bytes of a message ask, and what they are answered. Which faults close a connection is
+-- this project's choice, as are the numbers of faults.
+use Rattle.std.specs.Prelude.{ℕ, Bool, true, false, List, [], ◌∷◌, length, Option, Some, None}
+use Rattle.std.specs.Prelude.{Result, Ok, Err, codes, nat_lt, if◌then◌else◌}
 use Rattle.std.specs.List.{list_any}
 use Rattle.std.specs.Str.{bytes_eq}
 use Rattle.op_msg.specs.Limits.{most_internal}
@@ -31,7 +32,8 @@ use Rattle.single_node.specs.declared.answer.Answer.{Answer}
 use Rattle.single_node.specs.declared.answer.Answer.TheVariants as answer
 use Rattle.single_node.specs.Serving.{State, served, reply_to}
 
--- bytes of a wrong length, and of another operation, close their connection; of every other fault their sender is told
+-- bytes of a wrong length, and of another operation, close their connection; of every other fault
+-- their sender is told
 abbrev pub from_message : FrameErr → Unserved
 from_message fault.Length = Closed 1
 from_message fault.OpCode = Closed 2
@@ -70,8 +72,8 @@ abbrev pub asked_by : Result Request CmdErr → Result Request Unserved
 asked_by (Ok request) = Ok request
 asked_by (Err error) = Err (from_command error)
 
--- the fields by which a command is one of a transaction or has a place in time, as the manual's chapters on transactions and
--- on causal consistency have them
+-- the fields by which a command is one of a transaction or has a place in time, as the manual's
+-- chapters on transactions and on causal consistency have them
 abbrev pub is_transactional : List ℕ → Bool
 is_transactional name = list_any (λ other. bytes_eq name other) (
     codes "txnNumber" ∷
@@ -84,8 +86,8 @@ is_transactional name = list_any (λ other. bytes_eq name other) (
 abbrev pub has_transactional : Document → Bool
 has_transactional body = list_any (λ field. is_transactional field.0) body
 
--- requests of transactions aren't served yet, and neither are ends of sessions: they are told as commands that aren't known. A
--- hello may have any field.
+-- requests of transactions aren't served yet, and neither are ends of sessions: they are told as
+-- commands that aren't known. A hello may have any field.
 abbrev pub is_unserved : Option Command → Document → Bool
 is_unserved None body = false
 is_unserved (Some command.Ping) body = has_transactional body
@@ -108,12 +110,15 @@ read_by (Err error) = Err (from_message error)
 abbrev pub asks : List ℕ → Result Request Unserved
 asks bytes = read_by (frame_of bytes)
 
--- a reply goes out where one is wanted, and where it fits into a message; else it closes the connection as too large
+-- a reply goes out where one is wanted, and where it fits into a message; else it closes the
+-- connection as too large
 abbrev pub sent : List ℕ → Answer
 sent bytes = if nat_lt most_internal (length bytes) then answer.Closed 8 else answer.Reply bytes
 
 abbrev pub told : List ℕ → Reply → ℕ → Answer
-told bytes reply time = if wants_reply bytes then sent (message (reply_frame reply (request_id bytes) (is_legacy bytes) time)) else answer.Silent
+told bytes reply time = if wants_reply bytes
+    then sent (message (reply_frame reply (request_id bytes) (is_legacy bytes) time))
+    else answer.Silent
 
 -- behind what was asked
 abbrev pub behind_asked : State → Result Request Unserved → State
@@ -122,7 +127,8 @@ behind_asked s (Err error) = s
 
 -- what it is answered on this connection
 abbrev pub answer_asked : ℕ → State → List ℕ → Result Request Unserved → Answer
-answer_asked conn s bytes (Ok request) = told bytes (reply_to conn s request) (served s request).last
+answer_asked conn s bytes (Ok request) =
+    told bytes (reply_to conn s request) (served s request).last
 answer_asked conn s bytes (Err (Told why)) = told bytes (Refused why) s.last
 answer_asked conn s bytes (Err (Closed number)) = answer.Closed number
 answer_asked conn s bytes (Err Memory) = answer.Silent

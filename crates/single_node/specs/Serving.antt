@@ -1,7 +1,8 @@
--- What one router and one shard do with requests. A statement draws a serial, and is evaluated over all commits so far;
--- where it writes something, it commits. So each command is a transaction by itself, as a write outside a transaction is
--- in the MongoDB manual.
-use Rattle.std.specs.Prelude.{ℕ, pos, codes, ◌+◌, ◌-◌, ◌^◌, ◌==◌, nat_lt, Bool, not, List, [], ◌∷◌, ◌++◌, length, Some, None, Ok, Err, if◌then◌else◌}
+-- What one router and one shard do with requests. A statement draws a serial, and is evaluated over
+-- all commits so far; where it writes something, it commits. So each command is a transaction by
+-- itself, as a write outside a transaction is in the MongoDB manual.
+use Rattle.std.specs.Prelude.{ℕ, pos, codes, ◌+◌, ◌-◌, ◌^◌, ◌==◌, nat_lt, Bool, not, List, [], ◌∷◌}
+use Rattle.std.specs.Prelude.{◌++◌, length, Some, None, Ok, Err, if◌then◌else◌}
 use Rattle.txn_types.specs.Clock.{next_time}
 use Rattle.txn_types.specs.declared.names.Tag.{Tag}
 use Rattle.txn_types.specs.declared.operation.Op.{Op}
@@ -13,13 +14,15 @@ use Rattle.txn_semantics.specs.declared.commits.Answered.{Answered}
 use Rattle.txn_semantics.specs.Meaning.{Meaning, eval, reply_of, writes_of, ns_of}
 use Rattle.txn_semantics.specs.View.{view}
 use Rattle.client_cmd.specs.declared.request.Request.{Request}
-use Rattle.client_cmd.specs.declared.request.Request.TheVariants.{Ping, Hello, Statement, Commit, Abort, EndSessions}
+use Rattle.client_cmd.specs.declared.request.Request.TheVariants.{Ping, Hello, Statement, Commit}
+use Rattle.client_cmd.specs.declared.request.Request.TheVariants.{Abort, EndSessions}
 use Rattle.client_reply.specs.declared.reply.Reply.{Reply}
 use Rattle.client_reply.specs.declared.reply.Reply.TheVariants as reply
 use Rattle.client_reply.specs.declared.reply.Refusal.TheVariants.{ReplyTooLarge, Spent, Unknown}
 use Rattle.txn_types.specs.declared.cause.Cause.TheVariants as cause
 
--- the serial drawn last, the time of the last commit, the commits, and the statements that were answered
+-- the serial drawn last, the time of the last commit, the commits, and the statements that were
+-- answered
 pub record State : Type 0 where
   pub serial : ℕ
   pub last : ℕ
@@ -29,7 +32,8 @@ pub record State : Type 0 where
 abbrev pub first_state : State
 first_state = record { serial = 0; last = 0; entries = []; answered = [] }
 
--- the moment of each request is second 1, so the first commit is at the first increment of that second
+-- the moment of each request is second 1, so the first commit is at the first increment of that
+-- second
 abbrev pub commit_time : ℕ → ℕ
 commit_time last = next_time last 1
 
@@ -46,12 +50,19 @@ abbrev pub writes_something : Meaning → Bool
 writes_something m = not (length (writes_of m) == 0)
 
 abbrev pub statement_of : State → Op → Meaning → Answered
-statement_of s op m = record { tag = tag_of (s.serial + 1); read_at = s.last; k = 1; op = op; outcome = reply_of m }
+statement_of s op m =
+    record { tag = tag_of (s.serial + 1); read_at = s.last; k = 1; op = op; outcome = reply_of m }
 
 abbrev pub commit_of : State → Meaning → Entry
-commit_of s m = record { tag = tag_of (s.serial + 1); read_at = s.last; at = commit_time s.last; writes = writes_of m }
+commit_of s m = record {
+  tag = tag_of (s.serial + 1);
+  read_at = s.last;
+  at = commit_time s.last;
+  writes = writes_of m;
+}
 
--- behind an answered statement of this meaning: it is among the commits exactly where it writes something
+-- behind an answered statement of this meaning: it is among the commits exactly where it writes
+-- something
 abbrev pub with_answer : State → Op → Meaning → State
 with_answer s op m =
     record {
@@ -69,7 +80,8 @@ has_serial s = nat_lt s.serial (2 ^ 63 - 1)
 abbrev pub served : State → Request → State
 served s (Ping more time) = s
 served s (Hello old_name more time) = s
-served s (Statement op txn at after more time) = if has_serial s then with_answer s op (meaning s op) else s
+served s (Statement op txn at after more time) =
+    if has_serial s then with_answer s op (meaning s op) else s
 served s (Commit txn token more time) = s
 served s (Abort txn more time) = s
 served s (EndSessions ids more time) = s
@@ -94,7 +106,8 @@ told op (Err e) = reply.Caused 0 (pos 0) (cause.Statement e)
 abbrev pub reply_to : ℕ → State → Request → Reply
 reply_to conn s (Ping more time) = reply.Ping
 reply_to conn s (Hello old_name more time) = reply.Hello old_name 1 conn
-reply_to conn s (Statement op txn at after more time) = if has_serial s then told op (meaning s op) else reply.Refused Spent
+reply_to conn s (Statement op txn at after more time) = if has_serial s then told op (meaning s op)
+    else reply.Refused Spent
 reply_to conn s (Commit txn token more time) = reply.Refused (Unknown (codes "commitTransaction"))
 reply_to conn s (Abort txn more time) = reply.Refused (Unknown (codes "abortTransaction"))
 reply_to conn s (EndSessions ids more time) = reply.Refused (Unknown (codes "endSessions"))

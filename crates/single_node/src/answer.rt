@@ -45,8 +45,9 @@ impl Server {
         }
     }
 
-    /// Answers one message on that connection, which is all of the bytes. What `read_frame` refuses with `Length`, `OpCode` or `TooLarge` closes
-    /// its connection; every other refusal is told. A reply that were longer than 400,000,000 bytes would close it too.
+    /// Answers one message on that connection, which is all of the bytes. What `read_frame` refuses
+    /// with `Length`, `OpCode` or `TooLarge` closes its connection; every other refusal is told. A
+    /// reply that were longer than 400,000,000 bytes would close it too.
     pub fn answer(&mut self, alloc: Global, conn: u32, message: &[u8]) -> Result<Answer, AllocError>
         requires { IsSound self.old }
         ensures answer { IfOk result (λ a. a ≡ answer_of conn (state_of self.old) message.now) }

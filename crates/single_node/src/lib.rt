@@ -1,4 +1,5 @@
-//! One router and one shard, without a disk: they serve plain commands, each of which is a transaction by itself.
+//! One router and one shard, without a disk: they serve plain commands, each of which is a
+//! transaction by itself.
 #![tactic(auto)]
 
 mod answer;

@@ -144,7 +144,8 @@ fn read_served(alloc: Global, frame: &Frame) -> Result<Request, Unserved>
     Ok(read_command(alloc, frame, WALL)?)
 }
 
-/// Reads what a message asks. A request that isn't served yet is refused as one of a command that isn't known.
+/// Reads what a message asks. A request that isn't served yet is refused as one of a command that
+/// isn't known.
 pub fn read_request(alloc: Global, message: &[u8]) -> Result<Request, Unserved>
     ensures { Gives (λ r. r) result (asks message.now) }
 {

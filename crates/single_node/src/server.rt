@@ -17,8 +17,9 @@ const WALL: u32 = 1;
 /// The last serial that is drawn.
 const LAST_SERIAL: u64 = 0x7fff_ffff_ffff_ffff;
 
-/// One router and one shard, without a disk: a clock, the serial that was drawn last, the list of commits, and the rows
-/// that these add up to. The clock's ceiling is the end of time, since nothing is made durable.
+/// One router and one shard, without a disk: a clock, the serial that was drawn last, the list of
+/// commits, and the rows that these add up to. The clock's ceiling is the end of time, since
+/// nothing is made durable.
 #[derive(Drop)]
 pub struct Server {
     pub clock: HybridClock,
@@ -58,8 +59,8 @@ fn into_namespace(op: Op) -> Ns
     }
 }
 
-/// What is told of an operation that was done: of an update also how many documents it changed. Documents have to fit
-/// into one answer.
+/// What is told of an operation that was done: of an update also how many documents it changed.
+/// Documents have to fit into one answer.
 fn told(op: Op, reply: OpReply) -> Reply
     ensures { result ≡ told_of op reply }
 {
@@ -121,7 +122,8 @@ impl Server {
         }
     }
 
-    /// Serves a request on that connection. A statement draws a serial, whether it is refused or not; what it writes is committed.
+    /// Serves a request on that connection. A statement draws a serial, whether it is refused or
+    /// not; what it writes is committed.
     pub fn serve(&mut self, alloc: Global, conn: u32, request: Request) -> Result<Reply, AllocError>
         requires { IsSound self.old }
         ensures reply { IfOk result (λ r. r ≡ reply_to conn (state_of self.old) request) }
@@ -160,9 +162,12 @@ impl Server {
 
     fn statement(&mut self, alloc: Global, op: Op) -> Result<Reply, AllocError>
         requires { IsSound self.old }
-        ensures reply { IfOk result (λ r. r ≡ (if has_serial (state_of self.old) then told op (meaning (state_of self.old) op) else reply.Refused Spent)) }
+        ensures reply { IfOk result (λ r. r ≡ (if has_serial (state_of self.old)
+            then told op (meaning (state_of self.old) op) else reply.Refused Spent)) }
         ensures fits { IfOk result FitsReply }
-        ensures state { OnOk result (StandsAt self.new (if has_serial (state_of self.old) then with_answer (state_of self.old) op (meaning (state_of self.old) op) else state_of self.old)) }
+        ensures state { OnOk result (StandsAt self.new (if has_serial (state_of self.old)
+            then with_answer (state_of self.old) op (meaning (state_of self.old) op)
+            else state_of self.old)) }
         ensures sound { OnOk result (IsSound self.new) }
     {
         if self.serial >= LAST_SERIAL {
@@ -184,7 +189,8 @@ impl Server {
         }
     }
 
-    /// Commits what a statement wrote, by the serial drawn last. Where it wrote nothing there is no commit.
+    /// Commits what a statement wrote, by the serial drawn last. Where it wrote nothing there is no
+    /// commit.
     fn commit(&mut self, alloc: Global, writes: Writes) -> Result<(), AllocError>
         requires sound { IsSound self.old }
         requires drawn { commit_time self.old.clock.last ≤ 2 ^ 32 + self.old.serial }

@@ -4,10 +4,13 @@ use crate::statements::{Shards, deleted, found, inserted, merged, updated};
 use crate::times::{advanced, ticked};
 use std::alloc::{AllocError, Global};
 
-/// A file of cases that is run: how many there were, the number of the line, and the rows that stand.
+/// A file of cases that is run: how many there were, the number of the line, and the rows that
+/// stand.
 ///
-/// A line is `CALL WORDS => WANTED`, with ` | ` between the arguments; `standing IDS`, the ids that stand from here on, or
-/// `beside IDS`, those of a second shard; blank, or a comment, which begins with `#`. Any other line is a failure.
+/// A line is `CALL WORDS => WANTED`, with ` | ` between the arguments; `standing IDS`, the ids that
+/// stand from here on, or
+/// `beside IDS`, those of a second shard; blank, or a comment, which begins with `#`. Any other
+/// line is a failure.
 #[derive(Drop)]
 pub struct Cases {
     pub count: u64,

@@ -1,5 +1,5 @@
-//! Runs the cases of what statements mean that lie in a folder, the current one where none is named, and prints each that
-//! goes another way than it says, and how many there were in each file.
+//! Runs the cases of what statements mean that lie in a folder, the current one where none is
+//! named, and prints each that goes another way than it says, and how many there were in each file.
 #![tactic(auto)]
 
 mod cases;

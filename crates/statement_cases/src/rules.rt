@@ -1,4 +1,5 @@
-//! Single rules: whether a filter matches, what an update makes of a document, namespaces, ids and their order.
+//! Single rules: whether a filter matches, what an update makes of a document, namespaces, ids and
+//! their order.
 
 use crate::words::{document_of, document_text, value_of};
 use bson_core::Name;

@@ -76,8 +76,8 @@ fn marked(alloc: Global, word: &str) -> Result<Option<Value>, AllocError> {
     Ok(None)
 }
 
-/// A value that holds no others: `null`, `true`, `false`, an int32, an int64 with an `L` after it, one with a mark, or else
-/// a text.
+/// A value that holds no others: `null`, `true`, `false`, an int32, an int64 with an `L` after it,
+/// one with a mark, or else a text.
 fn leaf(alloc: Global, word: &str) -> Result<Value, AllocError> {
     if word == "null" {
         return Ok(Value::Null);

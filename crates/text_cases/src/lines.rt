@@ -3,7 +3,8 @@ use play_script::{Line, LineErr, read_line};
 use std::alloc::{AllocError, Global};
 use txn_types::NodeId;
 
-/// The file of lines. Each stands before ` => ` and what it asks, or the name of its first fault; behind a `#` stands a remark.
+/// The file of lines. Each stands before ` => ` and what it asks, or the name of its first fault;
+/// behind a `#` stands a remark.
 pub const FILE: &str = "lines.cases";
 
 fn node_text(alloc: Global, node: NodeId) -> Result<String, AllocError> {
@@ -70,7 +71,8 @@ fn fault_of(alloc: Global, case: &str) -> Result<String, AllocError> {
     format!(in alloc; "{case}: told {told}\n")
 }
 
-/// Runs the cases of the text, and gives a line for each that goes another way than it says, and how many there are.
+/// Runs the cases of the text, and gives a line for each that goes another way than it says, and
+/// how many there are.
 pub fn report(alloc: Global, text: &str) -> Result<(String, u64), AllocError> {
     let mut report = String::new(alloc);
     let mut count: u64 = 0;

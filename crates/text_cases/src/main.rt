@@ -1,5 +1,5 @@
-//! Reads configurations and lines of schedules from files. It prints what each configuration says, or why it is refused, and each
-//! line that asks something else than its case says.
+//! Reads configurations and lines of schedules from files. It prints what each configuration says,
+//! or why it is refused, and each line that asks something else than its case says.
 #![tactic(auto)]
 
 mod configurations;

@@ -1,9 +1,12 @@
 -- What stands of opened statements is kept by a step that takes an Answer.
-use Rattle.std.proofs.Common.{◌≡◌, inl, inr, ◌+◌, ◌≤◌, ◌<◌, ◌&&◌, ℕ, ℤ, Bool, true, false, not, List, [], ◌∷◌, ◌++◌, map, filter, filter_map, length, nat_eq, is_some, Option, Some, None, Ok, refl, sym, ap, ap₂, subst, ◌∙◌, arith}
+use Rattle.std.proofs.Common.{◌≡◌, inl, inr, ◌+◌, ◌≤◌, ◌<◌, ◌&&◌, ℕ, ℤ, Bool, true, false, not}
+use Rattle.std.proofs.Common.{List, [], ◌∷◌, ◌++◌, map, filter, filter_map, length, nat_eq, is_some}
+use Rattle.std.proofs.Common.{Option, Some, None, Ok, refl, sym, ap, ap₂, subst, ◌∙◌, arith}
 use Rattle.std.specs.Prelude.{Contains, slice_get, slice_set, IsOk}
 use Rattle.std.specs.List.{list_any, list_all}
 use Rattle.std.specs.Ordering.{nat_cmp}
-use Rattle.std.proofs.lemmas.List.Elements.{All-append, All-contains, Contains-append_right, Contains-append_cases}
+use Rattle.std.proofs.lemmas.List.Elements.{All-append, All-contains, Contains-append_right}
+use Rattle.std.proofs.lemmas.List.Elements.{Contains-append_cases}
 use Rattle.txn_types.specs.BySession.{BySession, entry_of}
 use Rattle.txn_types.specs.Order.{same_tag}
 use Rattle.txn_types.specs.declared.cause.Cause.{Cause}
@@ -21,7 +24,8 @@ use Rattle.router_state.specs.declared.state.Asker.{Asker}
 use Rattle.router_state.specs.declared.state.Doing.{Doing}
 use Rattle.router_state.specs.declared.state.Doing.TheVariants.{Begun, Sought}
 use Rattle.router_state.specs.declared.state.Phase.{Phase}
-use Rattle.router_state.specs.declared.state.Phase.TheVariants.{Idle, Asking, Checking, Deciding, Committed, Released, Aborted}
+use Rattle.router_state.specs.declared.state.Phase.TheVariants.{Idle, Asking, Checking, Deciding}
+use Rattle.router_state.specs.declared.state.Phase.TheVariants.{Committed, Released, Aborted}
 use Rattle.router_state.specs.declared.state.Session.{Session}
 use Rattle.router_state.specs.declared.state.Transaction.{Transaction}
 use Rattle.router_state.specs.Deeds.{in_each_session}
@@ -30,17 +34,23 @@ use Rattle.router_rules.specs.Commits as co
 use Rattle.router_rules.specs.Serving.{answered_in}
 use Rattle.router_rules.specs.Statements as st
 use Rattle.participant.proofs.Cases.{either}
-use Rattle.cluster_core.specs.Answering.{Unanswered, is_for, with_answer, is_complete, all_say, meaning_in, answered_of, answered_among, left_unanswered}
+use Rattle.cluster_core.specs.Answering.{Unanswered, is_for, with_answer, is_complete, all_say}
+use Rattle.cluster_core.specs.Answering.{meaning_in, answered_of, answered_among, left_unanswered}
 use Rattle.answer_laws.specs.Comes.{as_opened}
 use Rattle.answer_laws.proofs.Lists.{both_true}
 use Rattle.told_laws.specs.Places.{IsLater, IsOpened}
-use Rattle.told_laws.proofs.Lists.{contained, has_map, map_has, has_filter, filter_has, InOrder, order_append, order_filter, order_map, order_two, not_same, same_nat}
+use Rattle.told_laws.proofs.Lists.{contained, has_map, map_has, has_filter, filter_has, InOrder}
+use Rattle.told_laws.proofs.Lists.{order_append, order_filter, order_map, order_two, not_same}
+use Rattle.told_laws.proofs.Lists.{same_nat}
 use Rattle.told_laws.proofs.Quiet.{IsOver, LeftDoing, LeavesIt, commits_left}
 use Rattle.told_laws.proofs.Moves.{IsOwn, each_from}
 use Rattle.told_laws.proofs.Opening.{nat_sym}
-use Rattle.told_laws.proofs.Standing.{AllReplied, OnceIn, Asked, IsAsked, PhaseStands, TxnStands, DoingStands, RouterStands, AreApart, IsOpen, ListsStand, BookStands, GoOn, txn_on, reply_on, own_on, drawn_on}
+use Rattle.told_laws.proofs.Standing.{AllReplied, OnceIn, Asked, IsAsked, PhaseStands, TxnStands}
+use Rattle.told_laws.proofs.Standing.{DoingStands, RouterStands, AreApart, IsOpen, ListsStand}
+use Rattle.told_laws.proofs.Standing.{BookStands, GoOn, txn_on, reply_on, own_on, drawn_on}
 use Rattle.told_laws.proofs.Booking.{CameOf, came_alone, Changes, book_step}
-use Rattle.told_laws.proofs.Taking.{waited_behind, count_behind, once_behind, none_wins, all_replies, told_merged}
+use Rattle.told_laws.proofs.Taking.{waited_behind, count_behind, once_behind, none_wins}
+use Rattle.told_laws.proofs.Taking.{all_replies, told_merged}
 
 -- The lists behind the Answer.
 

@@ -1,6 +1,7 @@
 -- What stands of opened statements is kept by a step that asks none and takes no answer, and by the
 -- end of a connection.
-use Rattle.std.proofs.Common.{◌≡◌, ◌⊎◌, inl, inr, ◌&&◌, ℕ, Bool, true, false, not, List, filter, nat_eq, Option, Some, None, refl, sym, ap, subst, ◌∙◌, arith}
+use Rattle.std.proofs.Common.{◌≡◌, ◌⊎◌, inl, inr, ◌&&◌, ℕ, Bool, true, false, not, List, filter}
+use Rattle.std.proofs.Common.{nat_eq, Option, Some, None, refl, sym, ap, subst, ◌∙◌, arith}
 use Rattle.std.specs.Prelude.{Contains, slice_get, slice_set}
 use Rattle.std.proofs.lemmas.List.Elements.{All-filter}
 use Rattle.txn_types.specs.declared.names.Tag.{Tag}
@@ -19,7 +20,9 @@ use Rattle.told_laws.specs.Places.{HasReply}
 use Rattle.told_laws.proofs.Lists.{filter_has, has_filter, order_filter, set_cases, not_same}
 use Rattle.told_laws.proofs.Quiet.{QuietDoing, DoingNotFrom, NotFrom}
 use Rattle.told_laws.proofs.Moves.{QuietFrom, AllQuiet, IsOwn}
-use Rattle.told_laws.proofs.Standing.{DoingStands, SameTag, RouterStands, AreApart, IsOpen, ListsStand, BookStands, txn_on, quiet_stands, own_on, drawn_on}
+use Rattle.told_laws.proofs.Standing.{DoingStands, SameTag, RouterStands, AreApart, IsOpen}
+use Rattle.told_laws.proofs.Standing.{ListsStand, BookStands, txn_on, quiet_stands, own_on}
+use Rattle.told_laws.proofs.Standing.{drawn_on}
 
 -- Each transaction that is begun behind a step was begun before it.
 

@@ -1,6 +1,8 @@
 -- What an event does at a router, session by session: each goes on quietly, or one asks a
 -- statement.
-use Rattle.std.proofs.Common.{◌≡◌, ◌⊎◌, inl, inr, ◌+◌, ◌≤◌, ◌||◌, ℕ, ℤ, Bool, true, false, not, List, [], ◌∷◌, option_map, Option, Some, None, refl, sym, ap, subst, ◌∙◌, arith}
+use Rattle.std.proofs.Common.{◌≡◌, ◌⊎◌, inl, inr, ◌+◌, ◌≤◌, ◌||◌, ℕ, ℤ, Bool, true, false, not}
+use Rattle.std.proofs.Common.{List, [], ◌∷◌, option_map, Option, Some, None, refl, sym, ap, subst}
+use Rattle.std.proofs.Common.{◌∙◌, arith}
 use Rattle.std.specs.List.{list_any}
 use Rattle.std.proofs.lemmas.List.Elements.{All-nil, All-append}
 use Rattle.txn_types.specs.BySession.{BySession, entry_of}
@@ -20,24 +22,31 @@ use Rattle.router_state.specs.declared.state.Asker.{Asker}
 use Rattle.router_state.specs.declared.state.Doing.{Doing}
 use Rattle.router_state.specs.declared.state.Doing.TheVariants.{Begun, Sought}
 use Rattle.router_state.specs.declared.state.Phase.{Phase}
-use Rattle.router_state.specs.declared.state.Phase.TheVariants.{Idle, Asking, Checking, Deciding, Committed, Released, Aborted}
+use Rattle.router_state.specs.declared.state.Phase.TheVariants.{Idle, Asking, Checking, Deciding}
+use Rattle.router_state.specs.declared.state.Phase.TheVariants.{Committed, Released, Aborted}
 use Rattle.router_state.specs.declared.state.Seeking.{Seeking}
 use Rattle.router_state.specs.declared.state.Session.{Session}
 use Rattle.router_state.specs.declared.state.Transaction.{Transaction}
 use Rattle.router_state.specs.Deeds.{Move, still, answers, done_in, each_session, in_each_session}
-use Rattle.router_state.specs.State.{RouterState, session_of, is_waiting, is_from, asker_of, asker_in, commit_sent}
+use Rattle.router_state.specs.State.{RouterState, session_of, is_waiting, is_from, asker_of}
+use Rattle.router_state.specs.State.{asker_in, commit_sent}
 use Rattle.router_rules.specs.Ends as en
 use Rattle.router_rules.specs.Statements as st
 use Rattle.router_rules.specs.Times.{met}
 use Rattle.router_rules.specs.Tokens as tk
-use Rattle.router_plan.specs.Refusals.{begun_in, statement_refusal, commit_refusal, abort_refusal, too_old, busy, started, no_transaction, after_commit, too_long, too_many, spent, many_shards, known_aborted, is_so, is_elsewhere, is_aborted}
+use Rattle.router_plan.specs.Refusals.{begun_in, statement_refusal, commit_refusal, abort_refusal}
+use Rattle.router_plan.specs.Refusals.{too_old, busy, started, no_transaction, after_commit}
+use Rattle.router_plan.specs.Refusals.{too_long, too_many, spent, many_shards, known_aborted, is_so}
+use Rattle.router_plan.specs.Refusals.{is_elsewhere, is_aborted}
 use Rattle.router_core.specs.Requests as rq
 use Rattle.shard_image.proofs.Sessions.{entry_there, entry_elsewhere, lsid_is}
 use Rattle.world_laws.specs.Begins.{Kept}
 use Rattle.answer_laws.proofs.Fits.{PostFits, AllFit, NoStatement}
 use Rattle.answer_laws.proofs.Beginning.{IsBegun, is_begun, first_none, so_not, leaves_fit}
 use Rattle.answer_laws.proofs.Going.{first_is, rest_is, some_same}
-use Rattle.told_laws.proofs.Quiet.{IsSettled, QuietDoing, doing_self, doing_then, commit_asked_quiet, client_aborts_quiet, session_quiet, seeks_quiet}
+use Rattle.told_laws.proofs.Quiet.{IsSettled, QuietDoing, doing_self, doing_then}
+use Rattle.told_laws.proofs.Quiet.{commit_asked_quiet, client_aborts_quiet, session_quiet}
+use Rattle.told_laws.proofs.Quiet.{seeks_quiet}
 
 -- what is there behind an event goes on from what stood there, or looks for a decision alone
 abbrev pub QuietFrom : Option Session → Doing → Type 0

@@ -1,6 +1,8 @@
 -- On one shard a statement's part is the statement, and what is told of one Answer is what it
 -- tells.
-use Rattle.std.proofs.Common.{◌≡◌, ◌+◌, ◌<◌, ℕ, Bool, true, false, All, List, [], ◌∷◌, ◌++◌, filter, Option, Some, None, is_some, Ok, Err, nat_eq, nat_lt, refl, sym, ap, ap₂, ◌∙◌, arith, if◌then◌else◌}
+use Rattle.std.proofs.Common.{◌≡◌, ◌+◌, ◌<◌, ℕ, Bool, true, false, All, List, [], ◌∷◌, ◌++◌, filter}
+use Rattle.std.proofs.Common.{Option, Some, None, is_some, Ok, Err, nat_eq, nat_lt, refl, sym, ap}
+use Rattle.std.proofs.Common.{ap₂, ◌∙◌, arith, if◌then◌else◌}
 use Rattle.std.specs.Option.{option_or}
 use Rattle.std.proofs.lemmas.Bool.{ltb-true}
 use Rattle.std.proofs.lemmas.List.Elements.{All-head, All-tail}
@@ -13,12 +15,14 @@ use Rattle.txn_types.specs.declared.operation.OpReply.{OpReply}
 use Rattle.txn_types.specs.declared.operation.OpReply.TheVariants.{Count}
 use Rattle.txn_types.specs.declared.write.Write.{Write}
 use Rattle.txn_semantics.specs.Effect.{Doing, AreKnown, matching}
-use Rattle.txn_semantics.specs.Meaning.{capped, eval, meaning_of, count_met, count_both, reply_of, document_rules}
+use Rattle.txn_semantics.specs.Meaning.{capped, eval, meaning_of, count_met, count_both, reply_of}
+use Rattle.txn_semantics.specs.Meaning.{document_rules}
 use Rattle.txn_semantics.specs.Merge.{merge, merge_counts}
 use Rattle.txn_semantics.specs.Rows.{Row, IsRising, at}
 use Rattle.txn_semantics.specs.Splits.{here, goes, outcome, AreOnce}
 use Rattle.txn_semantics.proofs.Whole.{replies_merge}
-use Rattle.chunk_map.specs.Map.{Map, IsMap, ranges_of, last_range, beginning_fault, row_fault, fault_behind}
+use Rattle.chunk_map.specs.Map.{Map, IsMap, ranges_of, last_range, beginning_fault, row_fault}
+use Rattle.chunk_map.specs.Map.{fault_behind}
 use Rattle.chunk_map.specs.Parts.{part_at}
 use Rattle.chunk_map.specs.Place.{begins_by, shard_in, shard_of}
 use Rattle.chunk_map.specs.declared.map.ChunkRow.{ChunkRow}
@@ -89,7 +93,8 @@ all_go : (place : Id → ℕ) (docs : List InsertItem) → ((id : Id) → place 
     → filter (goes document_rules (here place 0)) docs ≡ docs
 all_go place [] zero h = refl
 all_go place (item ∷ docs) zero h =
-    let first : goes document_rules (here place 0) item ≡ true = goes_by place item (id_in item.doc) refl
+    let first : goes document_rules (here place 0) item ≡ true =
+    goes_by place item (id_in item.doc) refl
     (All-head (λ (i : InsertItem). is_some (id_in i.doc) ≡ true) item docs h) zero in
     rw first (ap (λ (more : List InsertItem). item ∷ more)
     (all_go place docs zero (All-tail (λ (i : InsertItem). is_some (id_in i.doc) ≡ true) item
@@ -117,7 +122,8 @@ met_one a = ap₂ (λ (x y : ℕ). Count x y) (capped_twice a) refl
 -- what is told of counts
 met_case : (op : Op) (write : Row → Write) (d : Doing)
     → ((parts : List OpReply) → merge op parts ≡ merge_counts parts)
-    → outcome document_rules op (meaning_of count_met write d ∷ []) ≡ reply_of (meaning_of count_met write d)
+    → outcome document_rules op (meaning_of count_met write d ∷ [])
+    ≡ reply_of (meaning_of count_met write d)
 met_case op write (Err e) merges = refl
 met_case op write (Ok done) merges = ap Ok (merges (count_met done ∷ []) ∙ met_one _)
 
@@ -145,4 +151,5 @@ one_merges (Find ns wanted down limit) rows rises known =
     let op = Find ns wanted down limit in
     let whole = replies_merge document_rules (λ id. 0) (0 ∷ []) op rows rises
     (known, all_once (matching document_rules wanted rows)) in
-    sym (whole ∙ ap (λ (there : List Row). outcome document_rules op (eval op there ∷ [])) (all_at rows))
+    sym (whole
+    ∙ ap (λ (there : List Row). outcome document_rules op (eval op there ∷ [])) (all_at rows))

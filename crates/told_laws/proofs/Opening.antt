@@ -1,9 +1,13 @@
 -- What stands of opened statements is kept by a step that asks one.
-use Rattle.std.proofs.Common.{◌≡◌, ◌⊎◌, inl, inr, ◌+◌, ◌≤◌, ◌<◌, ◌&&◌, ◌||◌, ℕ, ℤ, Bool, true, false, not, List, [], ◌∷◌, ◌++◌, map, length, nat_eq, Some, None, refl, sym, ap, ap₂, subst, ◌∙◌, arith}
+use Rattle.std.proofs.Common.{◌≡◌, ◌⊎◌, inl, inr, ◌+◌, ◌≤◌, ◌<◌, ◌&&◌, ◌||◌, ℕ, ℤ, Bool, true}
+use Rattle.std.proofs.Common.{false, not, List, [], ◌∷◌, ◌++◌, map, length, nat_eq, Some, None}
+use Rattle.std.proofs.Common.{refl, sym, ap, ap₂, subst, ◌∙◌, arith}
 use Rattle.std.specs.Prelude.{Contains, slice_set, flat_map, filter_map, option_map}
 use Rattle.std.specs.List.{list_any}
 use Rattle.std.proofs.lemmas.List.{append-nil, length-map}
-use Rattle.std.proofs.lemmas.List.Elements.{All-weaker, All-push, All-contains, Contains-append_left, Contains-append_cases, Contains-push, Contains-push_cases}
+use Rattle.std.proofs.lemmas.List.Elements.{All-weaker, All-push, All-contains}
+use Rattle.std.proofs.lemmas.List.Elements.{Contains-append_left, Contains-append_cases}
+use Rattle.std.proofs.lemmas.List.Elements.{Contains-push, Contains-push_cases}
 use Rattle.txn_types.specs.Ids.{id_in}
 use Rattle.txn_types.specs.Order.{same_lsid}
 use Rattle.txn_types.specs.declared.message.Statement.{Statement}
@@ -39,7 +43,9 @@ use Rattle.answer_laws.proofs.Sending.{part_for, firsts}
 use Rattle.told_laws.specs.Places.{Rises, HasReply, IsOpened}
 use Rattle.told_laws.proofs.Lists.{order_more, only_one, not_same, same_nat}
 use Rattle.told_laws.proofs.Moves.{AsksOne, IsIdleIn, IsOwn}
-use Rattle.told_laws.proofs.Standing.{OnceIn, has_answer, IsAsked, TxnStands, DoingStands, SameTag, RouterStands, AreApart, IsOpen, ListsStand, BookStands, txn_on, replied_if, own_on, drawn_on}
+use Rattle.told_laws.proofs.Standing.{OnceIn, has_answer, IsAsked, TxnStands, DoingStands, SameTag}
+use Rattle.told_laws.proofs.Standing.{RouterStands, AreApart, IsOpen, ListsStand, BookStands}
+use Rattle.told_laws.proofs.Standing.{txn_on, replied_if, own_on, drawn_on}
 use Rattle.told_laws.proofs.Booking.{Alone, same_tag_of, Changes, book_step}
 
 -- The shards of a statement.
@@ -363,7 +369,8 @@ stands_other n conn r op m begun us told a other v (Begun u) apart there is newe
                 elim (Contains-append_cases begun new x at) [
                   | inl w ↦ w
                   | inr w ↦ absurd (newest.apart other v u apart there is
-                      (sym same ∙ (new_is n conn r.chunks a.lsid a.number a.t op (shards_of r.chunks op) x
+                      (sym same
+                      ∙ (new_is n conn r.chunks a.lsid a.number a.t op (shards_of r.chunks op) x
                       w).tag))
                 ];
             on = λ x at. Contains-append_left begun new x at;
@@ -385,7 +392,8 @@ stands_new n conn r op m begun us told a newest =
         below = λ v there same.
             elim (Contains-append_cases begun new v there) [
               | inl w ↦ let o = newest.older v w same in omega (arith, o.0)
-              | inr w ↦ let i = new_is n conn r.chunks a.lsid a.number a.t op (shards_of r.chunks op)
+              | inr w ↦ let i =
+                  new_is n conn r.chunks a.lsid a.number a.t op (shards_of r.chunks op)
                   v w in omega (arith, i.k)
             ];
         phase = new_asked n conn r.chunks a.lsid a.number a.asker a.t _ op (shards_of r.chunks op)

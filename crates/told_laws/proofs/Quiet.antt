@@ -1,7 +1,8 @@
 -- How a session's transaction goes on where none of its statements is asked or answered: it keeps
 -- its tag and the place of
 -- its newest statement, and an unanswered statement stays so, or the transaction is aborted.
-use Rattle.std.proofs.Common.{◌≡◌, ◌&&◌, ℕ, ℤ, Bool, true, false, not, List, [], ◌∷◌, length, nat_eq, int_lt, is_none, Option, Some, None, refl, sym, subst, ◌∙◌}
+use Rattle.std.proofs.Common.{◌≡◌, ◌&&◌, ℕ, ℤ, Bool, true, false, not, List, [], ◌∷◌, length}
+use Rattle.std.proofs.Common.{nat_eq, int_lt, is_none, Option, Some, None, refl, sym, subst, ◌∙◌}
 use Rattle.txn_types.specs.Order.{same_tag}
 use Rattle.txn_types.specs.declared.decision.Told.{Told}
 use Rattle.txn_types.specs.declared.decision.Told.TheVariants as told_as
@@ -13,7 +14,8 @@ use Rattle.router_state.specs.declared.state.Asker.{Asker}
 use Rattle.router_state.specs.declared.state.Doing.{Doing}
 use Rattle.router_state.specs.declared.state.Doing.TheVariants.{Begun, Sought}
 use Rattle.router_state.specs.declared.state.Phase.{Phase}
-use Rattle.router_state.specs.declared.state.Phase.TheVariants.{Idle, Asking, Checking, Deciding, Committed, Released, Aborted}
+use Rattle.router_state.specs.declared.state.Phase.TheVariants.{Idle, Asking, Checking, Deciding}
+use Rattle.router_state.specs.declared.state.Phase.TheVariants.{Committed, Released, Aborted}
 use Rattle.router_state.specs.declared.state.Seeking.{Seeking}
 use Rattle.router_state.specs.declared.state.Session.{Session}
 use Rattle.router_state.specs.declared.state.Transaction.{Transaction}

@@ -1,5 +1,7 @@
 -- The documents of a request have ids, and so have those of each statement that a router opened.
-use Rattle.std.proofs.Common.{◌≡◌, ◌+◌, max, ℕ, Bool, true, false, All, List, [], ◌∷◌, ◌++◌, cond, Option, Some, None, is_some, Result, Ok, Err, refl, ap, subst, if◌then◌else◌}
+use Rattle.std.proofs.Common.{◌≡◌, ◌+◌, max, ℕ, Bool, true, false, All, List, [], ◌∷◌, ◌++◌, cond}
+use Rattle.std.proofs.Common.{Option, Some, None, is_some, Result, Ok, Err, refl, ap, subst}
+use Rattle.std.proofs.Common.{if◌then◌else◌}
 use Rattle.std.specs.Prelude.{slice_get}
 use Rattle.std.proofs.lemmas.List.Elements.{All-nil, All-cons, All-append}
 use Rattle.outcomes.specs.Bind.{◌>>=◌}
@@ -23,7 +25,8 @@ use Rattle.crud_parse.specs.Results.{with_front}
 use Rattle.crud_parse.specs.declared.error.CrudErr.{CrudErr}
 use Rattle.crud_parse.specs.declared.error.CrudErr.TheVariants.{Missing}
 use Rattle.command_parse.specs.Items.{each_at, insert_item, update_item, delete_item}
-use Rattle.command_parse.specs.Operations.{op_of, checked, namespace_in, batch_under, filter_under, falls_under, limit_under, built}
+use Rattle.command_parse.specs.Operations.{op_of, checked, namespace_in, batch_under, filter_under}
+use Rattle.command_parse.specs.Operations.{falls_under, limit_under, built}
 use Rattle.command_parse.specs.declared.command.Command.{Command}
 use Rattle.command_parse.specs.declared.command.Command.TheVariants as command
 use Rattle.command_parse.specs.declared.command.Statement.{Statement}
@@ -39,7 +42,8 @@ use Rattle.router_plan.specs.declared.message.Unserved.{Unserved}
 use Rattle.router_state.specs.State.{RouterState, is_waiting}
 use Rattle.txn_model.specs.declared.ran.Ran.{Ran}
 use Rattle.txn_model.specs.declared.ran.Ran.TheVariants.{Step, Swapped}
-use Rattle.cluster_core.specs.Answering.{Unanswered, opened, opened_by as opened_parts, statements_in}
+use Rattle.cluster_core.specs.Answering.{Unanswered, opened, opened_by as opened_parts}
+use Rattle.cluster_core.specs.Answering.{statements_in}
 use Rattle.cluster_core.specs.Ledger.{Ledger, entered_by}
 use Rattle.cluster_core.specs.Routers.{Asked, asked_by, asked_at, request_at, is_memory}
 use Rattle.answer_laws.specs.Opened.{opened_at, opened_by, opened_from}

@@ -1,5 +1,7 @@
 -- What stands of opened statements is kept by each event, and so stands behind each run.
-use Rattle.std.proofs.Common.{◌≡◌, inl, inr, ◌&&◌, ℕ, Bool, true, false, All, List, [], ◌∷◌, ◌++◌, map, Option, Some, None, Result, Ok, Err, refl, sym, ap, ap₂, subst, ◌∙◌, arith, if◌then◌else◌}
+use Rattle.std.proofs.Common.{◌≡◌, inl, inr, ◌&&◌, ℕ, Bool, true, false, All, List, [], ◌∷◌, ◌++◌}
+use Rattle.std.proofs.Common.{map, Option, Some, None, Result, Ok, Err, refl, sym, ap, ap₂, subst}
+use Rattle.std.proofs.Common.{◌∙◌, arith, if◌then◌else◌}
 use Rattle.std.specs.Prelude.{slice_get, slice_set}
 use Rattle.std.proofs.lemmas.List.{append-nil, append_assoc}
 use Rattle.std.proofs.lemmas.List.Elements.{All-nil, All-head, All-tail, All-weaker}
@@ -33,8 +35,11 @@ use Rattle.router_core.specs.Requests as rq
 use Rattle.router_core.specs.Step as sp
 use Rattle.txn_model.specs.declared.ran.Ran.{Ran}
 use Rattle.txn_model.specs.declared.ran.Ran.TheVariants.{Step, Swapped}
-use Rattle.cluster_core.specs.Answering.{Unanswered, is_complete, all_say, answered_among, left_unanswered, taken_msg, taken_what, opened, opened_by, statements_in}
-use Rattle.cluster_core.specs.Ledger.{Ledger, Entered, fresh_ledger, ledger_behind, answered_from, entered, entered_by, passed, swapped}
+use Rattle.cluster_core.specs.Answering.{Unanswered, is_complete, all_say, answered_among}
+use Rattle.cluster_core.specs.Answering.{left_unanswered, taken_msg, taken_what, opened, opened_by}
+use Rattle.cluster_core.specs.Answering.{statements_in}
+use Rattle.cluster_core.specs.Ledger.{Ledger, Entered, fresh_ledger, ledger_behind, answered_from}
+use Rattle.cluster_core.specs.Ledger.{entered, entered_by, passed, swapped}
 use Rattle.cluster_core.specs.Nodes.{Nodes}
 use Rattle.cluster_core.specs.Routers.{asked_by, request_at}
 use Rattle.cluster_core.specs.Trace.{Happens, IsTrace, IsFresh, RouterSteps, again}
@@ -44,7 +49,8 @@ use Rattle.answer_laws.proofs.Lists.{set_same}
 use Rattle.answer_laws.proofs.Sending.{parts_from, part_for, parts_are, skipped, told_by}
 use Rattle.told_laws.specs.Places.{IsOpened}
 use Rattle.told_laws.proofs.Quiet.{DoingNotFrom, ended_quiet, gone_quiet}
-use Rattle.told_laws.proofs.Moves.{QuietFrom, AllQuiet, QuietMove, AsksOne, MayAskOne, all_self, each_from, each_quiet, quiet_still, statement_asks, others_quiet}
+use Rattle.told_laws.proofs.Moves.{QuietFrom, AllQuiet, QuietMove, AsksOne, MayAskOne, all_self}
+use Rattle.told_laws.proofs.Moves.{each_from, each_quiet, quiet_still, statement_asks, others_quiet}
 use Rattle.told_laws.proofs.Standing.{RouterStands, IsOpen, ListsStand, BookStands}
 use Rattle.told_laws.proofs.Booking.{quiet_router, quiet_book, gone_book, again_book}
 use Rattle.told_laws.proofs.Opening.{news_of, asks_book}

@@ -1,6 +1,8 @@
 -- An Answer that a router takes: the statement that is asked takes it too; and where it was the
 -- last, the statement is answered.
-use Rattle.std.proofs.Common.{◌≡◌, ◌+◌, ◌&&◌, ◌||◌, ℕ, Bool, true, false, not, List, [], ◌∷◌, filter_map, find, length, nat_eq, is_some, Option, Some, None, option_map, Ok, Err, Result, refl, sym, ap, ap₂, ◌∙◌, arith}
+use Rattle.std.proofs.Common.{◌≡◌, ◌+◌, ◌&&◌, ◌||◌, ℕ, Bool, true, false, not, List, [], ◌∷◌}
+use Rattle.std.proofs.Common.{filter_map, find, length, nat_eq, is_some, Option, Some, None}
+use Rattle.std.proofs.Common.{option_map, Ok, Err, Result, refl, sym, ap, ap₂, ◌∙◌, arith}
 use Rattle.std.specs.List.{list_any, list_all}
 use Rattle.std.specs.Option.{option_or}
 use Rattle.std.specs.Ordering.{nat_cmp}

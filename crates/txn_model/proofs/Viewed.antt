@@ -6,5 +6,8 @@ use Rattle.txn_types.specs.declared.write.Write.{Write}
 use Rattle.txn_types.specs.declared.write.Write.TheVariants.{Delete}
 use Rattle.txn_semantics.specs.Rows.{Row, delete_row, written}
 
-pub written_delete : (ns there : List ℕ) (id : Id) (rows : List Row) (write : Write) → write ≡ Delete there id → bytes_eq ns there ≡ true → written ns rows write ≡ delete_row id rows
-written_delete ns there id rows write is same = ap (written ns rows) is ∙ ap (λ b. if b then delete_row id rows else rows) same
+pub written_delete : (ns there : List ℕ) (id : Id) (rows : List Row) (write : Write)
+    → write ≡ Delete there id → bytes_eq ns there ≡ true
+    → written ns rows write ≡ delete_row id rows
+written_delete ns there id rows write is same = ap (written ns rows) is
+    ∙ ap (λ b. if b then delete_row id rows else rows) same

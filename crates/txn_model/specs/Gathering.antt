@@ -5,7 +5,8 @@ use Rattle.txn_model.specs.Commits.{Prepared}
 use Rattle.txn_model.specs.declared.gathering.Share.{Share}
 
 abbrev pub with_prepared : Share → Prepared → Share
-with_prepared s p = record { read_at = option_or s.read_at (Some p.read_at); writes = s.writes ++ p.writes }
+with_prepared s p =
+    record { read_at = option_or s.read_at (Some p.read_at); writes = s.writes ++ p.writes }
 
 abbrev pub gathered : Share → List Prepared → Share
 gathered s [] = s

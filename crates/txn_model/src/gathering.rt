@@ -10,7 +10,8 @@ use txn_semantics::Entry;
 use txn_types::{Tag, Ts, Write, Writes};
 use write_sets::merged;
 
-/// What participants have prepared: what the first read at, and all their writes, one list behind the other.
+/// What participants have prepared: what the first read at, and all their writes, one list behind
+/// the other.
 #[derive(Drop)]
 pub struct Share {
     read_at: Option<Ts>,
@@ -45,7 +46,8 @@ fn take(
     at: Ts,
     writes: &Writes,
 ) -> Result<(), AllocError>
-    ensures { OnOk result (share.new ≡ with_prepared share.old (record { read_at = read_at; at = at; writes = writes.now })) }
+    ensures { OnOk result (share.new
+        ≡ with_prepared share.old (record { read_at = read_at; at = at; writes = writes.now })) }
 {
     let _at = at;
     if share.read_at.is_none() {
@@ -122,7 +124,8 @@ fn share_of(
     tag: Tag,
     parts: &[(u16, u32)],
 ) -> Result<Share, AllocError>
-    ensures { IfOk result (λ s. s ≡ gathered (record { read_at = None; writes = [] }) (prepared_at (map (λ j. j.now) journals.now) tag parts.now)) }
+    ensures { IfOk result (λ s. s ≡ gathered (record { read_at = None; writes = [] })
+        (prepared_at (map (λ j. j.now) journals.now) tag parts.now)) }
 {
     let mut share = Share {
         read_at: None,
@@ -149,7 +152,8 @@ pub fn joined(
     at: Ts,
     parts: &[(u16, u32)],
 ) -> Result<Entry, AllocError>
-    ensures { IfOk result (λ e. e ≡ joined tag at (prepared_at (map (λ j. j.now) journals.now) tag parts.now)) }
+    ensures { IfOk result
+        (λ e. e ≡ joined tag at (prepared_at (map (λ j. j.now) journals.now) tag parts.now)) }
 {
     let share = share_of(alloc, journals, tag, parts)?;
     Ok(Entry {

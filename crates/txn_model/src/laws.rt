@@ -9,9 +9,12 @@ pub fn commits_are_in_order()
     ensures { (journals : Journals) → IsSorted entry_cmp (commits journals) }
 {}
 
-/// A record that is added to one journal puts the commit that it makes into the list, and changes no other commit: where
-/// none there has the time and tag of the new one, and a record that prepares is of no transaction that committed.
+/// A record that is added to one journal puts the commit that it makes into the list, and changes
+/// no other commit: where none there has the time and tag of the new one, and a record that
+/// prepares is of no transaction that committed.
 pub fn a_record_puts_its_commit_in()
-    ensures { (journals : Journals) (shard : ℕ) (recs : List Rec) (r : Rec) → slice_get journals shard ≡ Some recs → ChangesNone (commits journals) r
-        → AllNew (commits journals) (entry_of journals recs r) → commits (slice_set journals shard (recs ++ r ∷ [])) ≡ in_order (commits journals) (entry_of journals recs r) }
+    ensures { (journals : Journals) (shard : ℕ) (recs : List Rec) (r : Rec)
+        → slice_get journals shard ≡ Some recs → ChangesNone (commits journals) r
+        → AllNew (commits journals) (entry_of journals recs r) → commits (slice_set journals shard
+        (recs ++ r ∷ [])) ≡ in_order (commits journals) (entry_of journals recs r) }
 {}

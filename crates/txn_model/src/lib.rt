@@ -1,5 +1,5 @@
-//! What a run of a cluster is told by: its steps, and the list of commits that the shards' journals make, with what a
-//! moment sees of it.
+//! What a run of a cluster is told by: its steps, and the list of commits that the shards' journals
+//! make, with what a moment sees of it.
 #![tactic(auto)]
 
 mod gathering;

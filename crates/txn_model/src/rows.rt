@@ -14,7 +14,8 @@ fn place_of(rows: &[(Id, Doc)], id: &Id) -> Result<usize, usize>
     requires { IsRising rows.now }
     ensures within { IsSearchInRange result (length rows.now) }
     ensures there { IfOk result (HoldsAt (λ row. id_cmp row.0 id.now ≡ Equal) rows.now) }
-    ensures between { IfErr result (IsPartitionPoint (λ row. id_cmp row.0 id.now ≡ Less) (λ row. id_cmp row.0 id.now ≡ Greater) rows.now) }
+    ensures between { IfErr result (IsPartitionPoint (λ row. id_cmp row.0 id.now ≡ Less)
+        (λ row. id_cmp row.0 id.now ≡ Greater) rows.now) }
 {
     rows.binary_search_by(|(key, _)| key.compare(id))
 }

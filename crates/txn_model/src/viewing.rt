@@ -58,8 +58,8 @@ fn lay_all(
     Ok(())
 }
 
-/// The rows of a namespace at a moment: what the commits at or below it wrote, in their order, rising by id. It goes
-/// through all entries, and copies each document that they put.
+/// The rows of a namespace at a moment: what the commits at or below it wrote, in their order,
+/// rising by id. It goes through all entries, and copies each document that they put.
 pub fn view(alloc: Global, entries: &[Entry], at: Ts, ns: &Ns) -> Result<Vec<(Id, Doc)>, AllocError>
     ensures { IfOk result (λ rows. rows.items ≡ view entries.now at ns.now) }
 {

@@ -12,7 +12,8 @@ part here done = record { met = at here done.met; changed = at here done.changed
 
 -- first by index, then by id
 abbrev pub IsUpTo : OpErr → OpErr → Type 0
-IsUpTo e f = (e.index < f.index) ⊎ ((e.index ≡ f.index) × ((id_cmp e.id f.id ≡ Less) ⊎ (e.id ≡ f.id)))
+IsUpTo e f = (e.index < f.index)
+    ⊎ ((e.index ≡ f.index) × ((id_cmp e.id f.id ≡ Less) ⊎ (e.id ≡ f.id)))
 
 abbrev pub NotBefore : OpErr → Doing → Type 0
 NotBefore e (Ok done) = Unit {0}
@@ -27,9 +28,11 @@ abbrev pub IsBehind : ℕ → Doing → Type 0
 IsBehind n (Ok done) = Unit {0}
 IsBehind n (Err f) = n < f.index
 
-pub record StepSplits {I : Type 0} (step : I → List Row → Doing) (here : Id → Bool) (goes : I → Bool) (item : I) (rows : List Row) : Type 0 where
+pub record StepSplits {I : Type 0} (step : I → List Row → Doing) (here : Id → Bool)
+    (goes : I → Bool) (item : I) (rows : List Row) : Type 0 where
   pub going : goes item ≡ true → SplitsTo here (step item rows) (step item (at here rows))
-  pub staying : goes item ≡ false → SplitsTo here (step item rows) (Ok (record { met = []; changed = [] }))
+  pub staying : goes item ≡ false
+      → SplitsTo here (step item rows) (Ok (record { met = []; changed = [] }))
 
 -- each id of these rows is here, or none is
 abbrev pub AreAll : (Id → Bool) → Bool → List Row → Type 0

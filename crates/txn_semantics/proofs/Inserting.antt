@@ -1,5 +1,6 @@
 -- An insert of one document.
-use Rattle.std.proofs.Common.{◌≡◌, ℕ, Bool, true, false, cond, List, [], ◌∷◌, Option, Some, None, Ok, Err, ap, ◌∙◌}
+use Rattle.std.proofs.Common.{◌≡◌, ℕ, Bool, true, false, cond, List, [], ◌∷◌, Option, Some, None}
+use Rattle.std.proofs.Common.{Ok, Err, ap, ◌∙◌}
 use Rattle.txn_types.specs.Ids.{id_in}
 use Rattle.txn_types.specs.declared.id.Id.{Id}
 use Rattle.txn_types.specs.declared.operation.InsertItem.{InsertItem}
@@ -17,16 +18,25 @@ meaning_one ns doing = meaning_of count_met (put_of ns) (after doing (λ _. Ok n
 
 -- the one item, by whether its id is there
 new_by : InsertItem → Id → Bool → Doing
-new_by item id there = cond there (Err (record { index = item.index; id = id; what = Duplicate })) (Ok (record { met = (id, item.doc) ∷ []; changed = (id, item.doc) ∷ [] }))
+new_by item id there = cond there (Err (record { index = item.index; id = id; what = Duplicate }))
+    (Ok (record { met = (id, item.doc) ∷ []; changed = (id, item.doc) ∷ [] }))
 
-by_id : (ns : List ℕ) (item : InsertItem) (id : Id) (rows : List Row) → id_in item.doc ≡ Some id → eval (Insert ns (item ∷ [])) rows ≡ meaning_one ns (insert_new item rows id)
+by_id : (ns : List ℕ) (item : InsertItem) (id : Id) (rows : List Row) → id_in item.doc ≡ Some id
+    → eval (Insert ns (item ∷ [])) rows ≡ meaning_one ns (insert_new item rows id)
 unfolding meaning_one
-by_id ns item id rows has = ap (λ (o : Option Id). meaning_one ns (elim o [ None ↦ Ok nothing | Some i ↦ insert_new item rows i ])) has
+by_id ns item id rows has = ap (λ (o : Option Id).
+    meaning_one ns (elim o [ None ↦ Ok nothing | Some i ↦ insert_new item rows i ])) has
 
-pub insert_refused : (ns : List ℕ) (item : InsertItem) (id : Id) (rows : List Row) → id_in item.doc ≡ Some id → holds_id id rows ≡ true → eval (Insert ns (item ∷ [])) rows ≡ Err (record { index = item.index; id = id; what = Duplicate })
+pub insert_refused : (ns : List ℕ) (item : InsertItem) (id : Id) (rows : List Row)
+    → id_in item.doc ≡ Some id → holds_id id rows ≡ true → eval (Insert ns (item ∷ [])) rows
+    ≡ Err (record { index = item.index; id = id; what = Duplicate })
 unfolding meaning_one new_by
-insert_refused ns item id rows has there = by_id ns item id rows has ∙ ap (λ b. meaning_one ns (new_by item id b)) there
+insert_refused ns item id rows has there = by_id ns item id rows has
+    ∙ ap (λ b. meaning_one ns (new_by item id b)) there
 
-pub insert_done : (ns : List ℕ) (item : InsertItem) (id : Id) (rows : List Row) → id_in item.doc ≡ Some id → holds_id id rows ≡ false → eval (Insert ns (item ∷ [])) rows ≡ Ok (Count 1 0, Put ns id item.doc ∷ [])
+pub insert_done : (ns : List ℕ) (item : InsertItem) (id : Id) (rows : List Row)
+    → id_in item.doc ≡ Some id → holds_id id rows ≡ false
+    → eval (Insert ns (item ∷ [])) rows ≡ Ok (Count 1 0, Put ns id item.doc ∷ [])
 unfolding meaning_one new_by
-insert_done ns item id rows has free = by_id ns item id rows has ∙ ap (λ b. meaning_one ns (new_by item id b)) free
+insert_done ns item id rows has free = by_id ns item id rows has
+    ∙ ap (λ b. meaning_one ns (new_by item id b)) free

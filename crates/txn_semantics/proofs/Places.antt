@@ -9,7 +9,8 @@ use Rattle.txn_types.proofs.Orders.{id_total, id_exact}
 use Rattle.txn_semantics.specs.Writes.{Place, place_cmp}
 
 pub place_total : IsTotalOrder place_cmp
-place_total = then_total (on_total (λ (p : Place). p.0) nat_list_cmp_total) (on_total (λ (p : Place). p.1) id_total)
+place_total = then_total (on_total (λ (p : Place). p.0) nat_list_cmp_total)
+    (on_total (λ (p : Place). p.1) id_total)
 
 pub place_exact : CmpEqualImpliesEq place_cmp
 place_exact = exact_pairs (slice_cmp nat_cmp) id_cmp exact_bytes id_exact

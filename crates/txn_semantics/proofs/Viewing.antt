@@ -15,26 +15,38 @@ either_rises : (b : Bool) (xs ys : List Row) → IsRising xs → IsRising ys →
 either_rises true xs ys rx ry = rx
 either_rises false xs ys rx ry = ry
 
-pub written_rises : (ns : List ℕ) (rows : List Row) (write : Write) → IsRising rows → IsRising (written ns rows write)
-written_rises ns rows (Put there id doc) r = either_rises (bytes_eq ns there) (put_row id doc rows) rows (rises_put id_cmp id_total id_exact id doc rows r) r
-written_rises ns rows (Delete there id) r = either_rises (bytes_eq ns there) (delete_row id rows) rows (rises_taken_out id_cmp id_total id_exact id rows r) r
+pub written_rises : (ns : List ℕ) (rows : List Row) (write : Write) → IsRising rows
+    → IsRising (written ns rows write)
+written_rises ns rows (Put there id doc) r = either_rises (bytes_eq ns there) (put_row id doc rows)
+    rows (rises_put id_cmp id_total id_exact id doc rows r) r
+written_rises ns rows (Delete there id) r = either_rises (bytes_eq ns there) (delete_row id rows)
+    rows (rises_taken_out id_cmp id_total id_exact id rows r) r
 
-pub under_rises : (ns : List ℕ) (rows : List Row) (writes : List Write) → IsRising rows → IsRising (under ns rows writes)
+pub under_rises : (ns : List ℕ) (rows : List Row) (writes : List Write) → IsRising rows
+    → IsRising (under ns rows writes)
 under_rises ns rows [] r = r
-under_rises ns rows (write ∷ writes) r = under_rises ns (written ns rows write) writes (written_rises ns rows write r)
+under_rises ns rows (write ∷ writes) r =
+    under_rises ns (written ns rows write) writes (written_rises ns rows write r)
 
-pub view_from_rises : (rows : List Row) (entries : List Entry) (at : ℕ) (ns : List ℕ) → IsRising rows → IsRising (view_from rows entries at ns)
+pub view_from_rises : (rows : List Row) (entries : List Entry) (at : ℕ) (ns : List ℕ)
+    → IsRising rows → IsRising (view_from rows entries at ns)
 view_from_rises rows [] at ns r = r
 view_from_rises rows (entry ∷ entries) at ns r =
     let b = nat_le entry.at at in
-    view_from_rises (cond b (under ns rows entry.writes) rows) entries at ns (either_rises b (under ns rows entry.writes) rows (under_rises ns rows entry.writes r) r)
+    view_from_rises (cond b (under ns rows entry.writes) rows) entries at ns
+    (either_rises b (under ns rows entry.writes) rows (under_rises ns rows entry.writes r) r)
 
 pub view_rises : (entries : List Entry) (at : ℕ) (ns : List ℕ) → IsRising (view entries at ns)
 view_rises entries at ns = view_from_rises [] entries at ns tt
 
-leaves_from : (rows : List Row) (before behind : List Entry) (entry : Entry) (at : ℕ) (ns : List ℕ) → at < entry.at → view_from rows (before ++ entry ∷ behind) at ns ≡ view_from rows (before ++ behind) at ns
-leaves_from rows [] behind entry at ns above = ap (λ b. view_from (cond b (under ns rows entry.writes) rows) behind at ns) (lt-leb entry.at at above)
-leaves_from rows (first ∷ before) behind entry at ns above = leaves_from (cond (nat_le first.at at) (under ns rows first.writes) rows) before behind entry at ns above
+leaves_from : (rows : List Row) (before behind : List Entry) (entry : Entry) (at : ℕ) (ns : List ℕ)
+    → at < entry.at
+    → view_from rows (before ++ entry ∷ behind) at ns ≡ view_from rows (before ++ behind) at ns
+leaves_from rows [] behind entry at ns above = ap (λ b.
+    view_from (cond b (under ns rows entry.writes) rows) behind at ns) (lt-leb entry.at at above)
+leaves_from rows (first ∷ before) behind entry at ns above = leaves_from (cond (nat_le first.at at)
+    (under ns rows first.writes) rows) before behind entry at ns above
 
-pub entry_above_leaves : (before behind : List Entry) (entry : Entry) (at : ℕ) (ns : List ℕ) → at < entry.at → view (before ++ entry ∷ behind) at ns ≡ view (before ++ behind) at ns
+pub entry_above_leaves : (before behind : List Entry) (entry : Entry) (at : ℕ) (ns : List ℕ)
+    → at < entry.at → view (before ++ entry ∷ behind) at ns ≡ view (before ++ behind) at ns
 entry_above_leaves before behind entry at ns above = leaves_from [] before behind entry at ns above

@@ -1,5 +1,7 @@
--- What the items of a statement do to rows, one after the other, each over the rows that those before it left.
-use Rattle.std.specs.Prelude.{◌≡◌, ℕ, Bool, not, List, [], ◌∷◌, ◌++◌, filter, take, Option, Some, None, Result, Ok, Err, if◌then◌else◌}
+-- What the items of a statement do to rows, one after the other, each over the rows that those
+-- before it left.
+use Rattle.std.specs.Prelude.{◌≡◌, ℕ, Bool, not, List, [], ◌∷◌, ◌++◌, filter, take, Option, Some}
+use Rattle.std.specs.Prelude.{None, Result, Ok, Err, if◌then◌else◌}
 use Rattle.bson_core.specs.Fields.{Document}
 use Rattle.txn_types.specs.declared.id.Id.{Id}
 use Rattle.txn_types.specs.declared.filter.Filter.{Filter}
@@ -12,8 +14,8 @@ use Rattle.txn_types.specs.declared.operation.What.{What}
 use Rattle.txn_types.specs.declared.operation.What.TheVariants.{Duplicate}
 use Rattle.txn_semantics.specs.Rows.{Row, holds_id}
 
--- what is known of documents and decides what a statement does: which of them a filter matches, what an update makes of
--- one, whether two have the same bytes, how many bytes one has, and its id
+-- what is known of documents and decides what a statement does: which of them a filter matches,
+-- what an update makes of one, whether two have the same bytes, how many bytes one has, and its id
 pub record DocumentRules : Type 0 where
   pub matches : Filter → Document → Bool
   pub apply : Update → Document → Result Document What
@@ -26,7 +28,8 @@ abbrev pub AreKnown : DocumentRules → List Row → Type 0
 AreKnown w [] = Unit {0}
 AreKnown w (row ∷ rows) = (w.id_in row.1 ≡ Some row.0) × AreKnown w rows
 
--- the rows that items met, and those that they left with new content or took away, in the order of the items
+-- the rows that items met, and those that they left with new content or took away, in the order of
+-- the items
 pub record Done : Type 0 where
   pub met : List Row
   pub changed : List Row
@@ -55,9 +58,11 @@ each act [] = Ok nothing
 each act (row ∷ rows) = after (act row) (λ _. each act rows)
 
 -- item by item, each over the rows that those before it left, up to the first refusal
-abbrev pub through : {I : Type 0} → (I → List Row → Doing) → (List Row → List Row → List Row) → List I → List Row → Doing
+abbrev pub through : {I : Type 0} → (I → List Row → Doing) → (List Row → List Row → List Row)
+    → List I → List Row → Doing
 through step left [] rows = Ok nothing
-through step left (item ∷ items) rows = after (step item rows) (λ done. through step left items (left rows done.changed))
+through step left (item ∷ items) rows =
+    after (step item rows) (λ done. through step left items (left rows done.changed))
 
 -- a document whose id is there is refused
 abbrev pub insert_new : InsertItem → List Row → Id → Doing
@@ -68,7 +73,8 @@ insert_new item rows id =
 
 -- an item is a document with an id; one without, which no insert holds, does nothing
 abbrev pub insert_step : DocumentRules → InsertItem → List Row → Doing
-insert_step w item rows = elim (w.id_in item.doc) [ None ↦ Ok nothing | Some id ↦ insert_new item rows id ]
+insert_step w item rows =
+    elim (w.id_in item.doc) [ None ↦ Ok nothing | Some id ↦ insert_new item rows id ]
 
 -- the rows that an item meets: all that match, or the first of them
 abbrev pub matching : DocumentRules → Filter → List Row → List Row
@@ -82,7 +88,10 @@ abbrev pub updated : DocumentRules → UpdateItem → Row → Doing
 updated w item row =
     elim (w.apply item.update row.1) [
       | Err what ↦ Err (record { index = item.index; id = row.0; what = what })
-      | Ok doc ↦ Ok (record { met = row ∷ []; changed = if w.same row.1 doc then [] else ((row.0, doc) ∷ []) })
+      | Ok doc ↦ Ok (record {
+        met = row ∷ [];
+        changed = if w.same row.1 doc then [] else ((row.0, doc) ∷ []);
+      })
     ]
 
 abbrev pub update_step : DocumentRules → UpdateItem → List Row → Doing
@@ -90,7 +99,10 @@ update_step w item rows = each (updated w item) (met_by w item.filter item.many 
 
 -- a row that is met is taken away
 abbrev pub delete_step : DocumentRules → DeleteItem → List Row → Doing
-delete_step w item rows = Ok (record { met = met_by w item.filter item.many rows; changed = met_by w item.filter item.many rows })
+delete_step w item rows = Ok (record {
+  met = met_by w item.filter item.many rows;
+  changed = met_by w item.filter item.many rows;
+})
 
 -- the rows without those
 abbrev pub without : List Row → List Row → List Row

@@ -1,6 +1,8 @@
--- Which documents a filter matches. After the MongoDB manual's query operators, with this project's candidates: a field
--- offers its first value and, where that is a list, the values in it; a field that isn't there offers null.
-use Rattle.std.specs.Prelude.{ℕ, ◌&&◌, Bool, true, false, not, List, [], ◌∷◌, Option, Some, None, nat_eq, is_some}
+-- Which documents a filter matches. After the MongoDB manual's query operators, with this project's
+-- candidates: a field offers its first value and, where that is a list, the values in it; a field
+-- that isn't there offers null.
+use Rattle.std.specs.Prelude.{ℕ, ◌&&◌, Bool, true, false, not, List, [], ◌∷◌, Option, Some, None}
+use Rattle.std.specs.Prelude.{nat_eq, is_some}
 use Rattle.std.specs.List.{list_any, list_all}
 use Rattle.std.specs.declared.cmp.Ordering.{Ordering}
 use Rattle.std.specs.Ordering.{is_eq, is_lt, is_le, is_gt, is_ge}
@@ -33,7 +35,8 @@ candidates name doc = candidates_of (value_of name doc)
 
 -- the candidate is of the operand's bracket, and stands so beside it
 abbrev pub compares : (Ordering → Bool) → Value → Value → Bool
-compares so value candidate = nat_eq (bracket candidate) (bracket value) && so (value_cmp candidate value)
+compares so value candidate =
+    nat_eq (bracket candidate) (bracket value) && so (value_cmp candidate value)
 
 -- some candidate of the field compares so with the value
 abbrev pub some_compares : (Ordering → Bool) → List ℕ → Value → Document → Bool

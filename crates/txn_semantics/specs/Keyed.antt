@@ -1,4 +1,5 @@
--- Lists that hold one thing under each key, rising by the key: rows by id, writes by namespace and id.
+-- Lists that hold one thing under each key, rising by the key: rows by id, writes by namespace and
+-- id.
 use Rattle.std.specs.Prelude.{◌≡◌, Bool, List, [], ◌∷◌, filter}
 use Rattle.std.specs.declared.cmp.Ordering.{Ordering}
 use Rattle.std.specs.declared.cmp.Ordering.TheVariants.{Less, Equal, Greater}
@@ -6,12 +7,14 @@ use Rattle.std.specs.declared.cmp.Ordering.TheVariants.{Less, Equal, Greater}
 -- the list with this under the key, in place of what stood there
 abbrev pub put : {K A : Type 0} → (K → K → Ordering) → K → A → List (K × A) → List (K × A)
 put cmp key a [] = (key, a) ∷ []
-put cmp key a (row ∷ rows) = elim (cmp key row.0) [ Less ↦ (key, a) ∷ row ∷ rows | Equal ↦ (key, a) ∷ rows | Greater ↦ row ∷ put cmp key a rows ]
+put cmp key a (row ∷ rows) = elim (cmp key row.0)
+    [ Less ↦ (key, a) ∷ row ∷ rows | Equal ↦ (key, a) ∷ rows | Greater ↦ row ∷ put cmp key a rows ]
 
 -- the list with nothing under the key
 abbrev pub taken_out : {K A : Type 0} → (K → K → Ordering) → K → List (K × A) → List (K × A)
 taken_out cmp key [] = []
-taken_out cmp key (row ∷ rows) = elim (cmp key row.0) [ Less ↦ row ∷ rows | Equal ↦ rows | Greater ↦ row ∷ taken_out cmp key rows ]
+taken_out cmp key (row ∷ rows) = elim (cmp key row.0)
+    [ Less ↦ row ∷ rows | Equal ↦ rows | Greater ↦ row ∷ taken_out cmp key rows ]
 
 -- the list with others laid over it, one after the other
 abbrev pub laid : {K A : Type 0} → (K → K → Ordering) → List (K × A) → List (K × A) → List (K × A)

@@ -1,4 +1,5 @@
--- What a statement means: its reply and its writes over one list of rows, rising by id; or its refusal.
+-- What a statement means: its reply and its writes over one list of rows, rising by id; or its
+-- refusal.
 use Rattle.std.specs.Prelude.{ℕ, ◌-◌, ◌^◌, List, [], Result, Ok, Err, map, length, min}
 use Rattle.std.specs.Str.{bytes_eq}
 use Rattle.txn_types.specs.Limits.{most_found}
@@ -14,7 +15,8 @@ use Rattle.txn_types.specs.declared.write.Write.TheVariants.{Put, Delete as Remo
 use Rattle.txn_semantics.specs.Rows.{Row, laid_over}
 use Rattle.txn_semantics.specs.Filters.{matches}
 use Rattle.txn_semantics.specs.Updates.{apply}
-use Rattle.txn_semantics.specs.Effect.{DocumentRules, Done, Doing, through, insert_step, update_step, delete_step, without}
+use Rattle.txn_semantics.specs.Effect.{DocumentRules, Done, Doing, through, insert_step}
+use Rattle.txn_semantics.specs.Effect.{update_step, delete_step, without}
 use Rattle.txn_semantics.specs.Found.{Found, found}
 
 abbrev pub Meaning : Type 0
@@ -48,13 +50,23 @@ rows_of found = Rows found.0 found.1
 
 -- the documents of a find have at most 16,000,000 bytes
 abbrev pub eval_by : DocumentRules → Op → List Row → Meaning
-eval_by w (Insert ns items) rows = meaning_of count_met (put_of ns) (through (insert_step w) laid_over items rows)
-eval_by w (Find ns wanted down limit) rows = Ok (rows_of (found w most_found wanted down limit rows), [])
-eval_by w (Update ns items) rows = meaning_of count_both (put_of ns) (through (update_step w) laid_over items rows)
-eval_by w (Delete ns items) rows = meaning_of count_met (removed_of ns) (through (delete_step w) without items rows)
+eval_by w (Insert ns items) rows =
+    meaning_of count_met (put_of ns) (through (insert_step w) laid_over items rows)
+eval_by w (Find ns wanted down limit) rows =
+    Ok (rows_of (found w most_found wanted down limit rows), [])
+eval_by w (Update ns items) rows =
+    meaning_of count_both (put_of ns) (through (update_step w) laid_over items rows)
+eval_by w (Delete ns items) rows =
+    meaning_of count_met (removed_of ns) (through (delete_step w) without items rows)
 
 abbrev pub document_rules : DocumentRules
-document_rules = record { matches = matches; apply = apply; same = λ a b. bytes_eq (spelling a) (spelling b); size = λ doc. length (spelling doc); id_in = id_in }
+document_rules = record {
+  matches = matches;
+  apply = apply;
+  same = λ a b. bytes_eq (spelling a) (spelling b);
+  size = λ doc. length (spelling doc);
+  id_in = id_in;
+}
 
 -- the meaning of an operation over rows
 abbrev pub eval : Op → List Row → Meaning

@@ -31,7 +31,8 @@ merge_counts parts = Count (capped_sum (map n_of parts)) (capped_sum (map modifi
 
 abbrev pub merge_by : DocumentRules → Op → List OpReply → OpReply
 merge_by w (Insert ns items) parts = merge_counts parts
-merge_by w (Find ns wanted down limit) parts = rows_of (merged w most_found down limit (map found_of parts))
+merge_by w (Find ns wanted down limit) parts =
+    rows_of (merged w most_found down limit (map found_of parts))
 merge_by w (Update ns items) parts = merge_counts parts
 merge_by w (Delete ns items) parts = merge_counts parts
 

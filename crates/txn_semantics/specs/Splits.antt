@@ -1,5 +1,7 @@
--- How the meaning of a statement over all rows follows from its meanings over the rows of several shards.
-use Rattle.std.specs.Prelude.{◌≡◌, ◌<◌, ◌+◌, ℕ, Bool, false, List, [], ◌∷◌, Option, Some, None, Result, Ok, Err, filter, map, nat_eq, if◌then◌else◌}
+-- How the meaning of a statement over all rows follows from its meanings over the rows of several
+-- shards.
+use Rattle.std.specs.Prelude.{◌≡◌, ◌<◌, ◌+◌, ℕ, Bool, false, List, [], ◌∷◌, Option, Some, None}
+use Rattle.std.specs.Prelude.{Result, Ok, Err, filter, map, nat_eq, if◌then◌else◌}
 use Rattle.std.specs.declared.cmp.Ordering.{Ordering}
 use Rattle.std.specs.Ordering.{ordering_then, nat_cmp, is_lt}
 use Rattle.txn_types.specs.Order.{id_cmp}
@@ -12,7 +14,8 @@ use Rattle.txn_types.specs.declared.operation.OpReply.{OpReply}
 use Rattle.txn_types.specs.declared.write.Write.{Write}
 use Rattle.txn_types.specs.declared.write.Write.TheVariants.{Put, Delete as Removed}
 use Rattle.txn_semantics.specs.Rows.{Row, laid_over, at}
-use Rattle.txn_semantics.specs.Effect.{DocumentRules, Done, Doing, AreKnown, matching, update_step, delete_step, without}
+use Rattle.txn_semantics.specs.Effect.{DocumentRules, Done, Doing, AreKnown, matching, update_step}
+use Rattle.txn_semantics.specs.Effect.{delete_step, without}
 use Rattle.txn_semantics.specs.Found.{joined}
 use Rattle.txn_semantics.specs.Meaning.{Meaning, eval_by, reply_of, writes_of}
 use Rattle.txn_semantics.specs.Merge.{merge_by}
@@ -47,9 +50,11 @@ OnDone (Ok done) P = P done
 OnDone (Err e) P = Unit {0}
 
 -- what holds at each item, over the rows that it finds
-abbrev pub Along : {I : Type 0} → (I → List Row → Type 0) → (I → List Row → Doing) → (List Row → List Row → List Row) → List I → List Row → Type 0
+abbrev pub Along : {I : Type 0} → (I → List Row → Type 0) → (I → List Row → Doing)
+    → (List Row → List Row → List Row) → List I → List Row → Type 0
 Along P step left [] rows = Unit {0}
-Along P step left (item ∷ items) rows = P item rows × OnDone (step item rows) (λ done. Along P step left items (left rows done.changed))
+Along P step left (item ∷ items) rows = P item rows
+    × OnDone (step item rows) (λ done. Along P step left items (left rows done.changed))
 
 -- the rows stand at the shard
 abbrev pub AreAt : (Id → ℕ) → ℕ → List Row → Type 0
@@ -76,7 +81,8 @@ lesser e (Some f) = if is_lt (err_cmp f e) then f else e
 -- the first of the shards' errors
 abbrev pub least_err : List Meaning → Option OpErr
 least_err [] = None
-least_err (m ∷ parts) = elim m [ Ok done ↦ least_err parts | Err e ↦ Some (lesser e (least_err parts)) ]
+least_err (m ∷ parts) =
+    elim m [ Ok done ↦ least_err parts | Err e ↦ Some (lesser e (least_err parts)) ]
 
 -- what the shards replied that weren't refused
 abbrev pub replies : List Meaning → List OpReply
@@ -85,7 +91,8 @@ replies (m ∷ parts) = elim m [ Ok done ↦ done.0 ∷ replies parts | Err e �
 
 -- what is told of the answers of several shards
 abbrev pub outcome : DocumentRules → Op → List Meaning → Result OpReply OpErr
-outcome w op parts = elim (least_err parts) [ None ↦ Ok (merge_by w op (replies parts)) | Some e ↦ Err e ]
+outcome w op parts =
+    elim (least_err parts) [ None ↦ Ok (merge_by w op (replies parts)) | Some e ↦ Err e ]
 
 -- the document belongs where its id passes the test
 abbrev pub goes : DocumentRules → (Id → Bool) → InsertItem → Bool
@@ -106,18 +113,26 @@ written_id (Removed ns id) = id
 -- each document goes to a shard that is named once
 abbrev pub GoOnce : DocumentRules → (Id → ℕ) → List ℕ → List InsertItem → Type 0
 GoOnce w place shards [] = Unit {0}
-GoOnce w place shards (item ∷ items) = ((id : Id) → w.id_in item.doc ≡ Some id → times (place id) shards ≡ 1) × GoOnce w place shards items
+GoOnce w place shards (item ∷ items) = ((id : Id) → w.id_in item.doc ≡ Some id
+    → times (place id) shards ≡ 1) × GoOnce w place shards items
 
--- the rows that an item meets stand at shards that are named once, and at one shard where the item is for one document
+-- the rows that an item meets stand at shards that are named once, and at one shard where the item
+-- is for one document
 abbrev pub Meets : DocumentRules → (Id → ℕ) → List ℕ → Bool → List Row → Type 0
 Meets w place shards many rows = OneMeetsOne place many rows × AreOnce place shards rows
 
 -- what a statement must keep to, over these rows, to be told from its parts
 abbrev pub IsSplit : DocumentRules → (Id → ℕ) → List ℕ → Op → List Row → Type 0
-IsSplit w place shards (Insert ns docs) rows = IndicesRise (λ item. item.index) docs × GoOnce w place shards docs
-IsSplit w place shards (Find ns wanted down limit) rows = AreKnown w rows × AreOnce place shards (matching w wanted rows)
-IsSplit w place shards (Update ns items) rows = IndicesRise (λ item. item.index) items × Along (λ item rows. Meets w place shards item.many (matching w item.filter rows)) (update_step w) laid_over items rows
-IsSplit w place shards (Delete ns items) rows = IndicesRise (λ item. item.index) items × Along (λ item rows. Meets w place shards item.many (matching w item.filter rows)) (delete_step w) without items rows
+IsSplit w place shards (Insert ns docs) rows = IndicesRise (λ item. item.index) docs
+    × GoOnce w place shards docs
+IsSplit w place shards (Find ns wanted down limit) rows = AreKnown w rows
+    × AreOnce place shards (matching w wanted rows)
+IsSplit w place shards (Update ns items) rows = IndicesRise (λ item. item.index) items
+    × Along (λ item rows. Meets w place shards item.many (matching w item.filter rows))
+    (update_step w) laid_over items rows
+IsSplit w place shards (Delete ns items) rows = IndicesRise (λ item. item.index) items
+    × Along (λ item rows. Meets w place shards item.many (matching w item.filter rows))
+    (delete_step w) without items rows
 
 -- the meanings of the parts
 abbrev pub parts_of : DocumentRules → (Id → ℕ) → Op → List Row → ℕ → Meaning
@@ -130,11 +145,13 @@ AreWrites p writes (Err e) = ⊥
 
 -- each shard's writes are those of the whole that are placed there
 abbrev pub WritesSplit : DocumentRules → (Id → ℕ) → Op → List Row → Type 0
-WritesSplit w place op rows = (m : OpReply × List Write) → eval_by w op rows ≡ Ok m → (s : ℕ) → AreWrites (here place s) m.1 (parts_of w place op rows s)
+WritesSplit w place op rows = (m : OpReply × List Write) → eval_by w op rows ≡ Ok m → (s : ℕ)
+    → AreWrites (here place s) m.1 (parts_of w place op rows s)
 
 -- what is told of the whole is what is told of the shards' answers
 abbrev pub RepliesMerge : DocumentRules → (Id → ℕ) → List ℕ → Op → List Row → Type 0
-RepliesMerge w place shards op rows = reply_of (eval_by w op rows) ≡ outcome w op (map (parts_of w place op rows) shards)
+RepliesMerge w place shards op rows =
+    reply_of (eval_by w op rows) ≡ outcome w op (map (parts_of w place op rows) shards)
 
 -- writes under their ids
 abbrev pub keyed : List Write → List (Id × Write)
@@ -142,4 +159,5 @@ keyed writes = map (λ write. (written_id write, write)) writes
 
 -- the shards' writes, joined by id, are those of the whole
 abbrev pub WritesJoin : DocumentRules → (Id → ℕ) → List ℕ → Op → List Row → Type 0
-WritesJoin w place shards op rows = (m : OpReply × List Write) → eval_by w op rows ≡ Ok m → joined [] (map (λ s. keyed (writes_of (parts_of w place op rows s))) shards) ≡ keyed m.1
+WritesJoin w place shards op rows = (m : OpReply × List Write) → eval_by w op rows ≡ Ok m
+    → joined [] (map (λ s. keyed (writes_of (parts_of w place op rows s))) shards) ≡ keyed m.1

@@ -1,6 +1,8 @@
--- What an update makes of a document. After the MongoDB manual's $set, $unset and $inc and its replacement documents,
--- which are done in the order written.
-use Rattle.std.specs.Prelude.{ℕ, ℤ, pos, negsuc, ◌+ℤ◌, ◌&&◌, Bool, true, false, not, List, [], ◌∷◌, ◌++◌, length, filter, Option, Some, None, Result, Ok, Err, if◌then◌else◌, int_le, nat_le}
+-- What an update makes of a document. After the MongoDB manual's $set, $unset and $inc and its
+-- replacement documents, which are done in the order written.
+use Rattle.std.specs.Prelude.{ℕ, ℤ, pos, negsuc, ◌+ℤ◌, ◌&&◌, Bool, true, false, not, List, [], ◌∷◌}
+use Rattle.std.specs.Prelude.{◌++◌, length, filter, Option, Some, None, Result, Ok, Err}
+use Rattle.std.specs.Prelude.{if◌then◌else◌, int_le, nat_le}
 use Rattle.std.specs.Str.{bytes_eq}
 use Rattle.std.specs.Ordering.{is_eq}
 use Rattle.txn_types.specs.Limits.{most_stored}
@@ -15,7 +17,8 @@ use Rattle.bson_core.specs.Order.{value_cmp}
 use Rattle.bson_core.specs.Spelling.{spelling}
 use Rattle.txn_types.specs.Ids.{id_name}
 use Rattle.txn_types.specs.declared.operation.What.{What}
-use Rattle.txn_types.specs.declared.operation.What.TheVariants.{NotNumber, Overflow, Immutable, TooLarge}
+use Rattle.txn_types.specs.declared.operation.What.TheVariants.{NotNumber, Overflow, Immutable}
+use Rattle.txn_types.specs.declared.operation.What.TheVariants.{TooLarge}
 use Rattle.txn_types.specs.declared.update.Update.{Update}
 use Rattle.txn_types.specs.declared.update.Update.TheVariants.{Replace, Ops}
 use Rattle.txn_types.specs.declared.update.UpdateKind.{UpdateKind}
@@ -24,11 +27,13 @@ use Rattle.txn_types.specs.declared.update.UpdateOp.{UpdateOp}
 
 -- an int64 of that value, which has to fit
 abbrev pub long_of : ℤ → Result Value What
-long_of z = if int_le (negsuc 9223372036854775807) z && int_le z (pos 9223372036854775807) then Ok (Long z) else Err Overflow
+long_of z = if int_le (negsuc 9223372036854775807) z && int_le z (pos 9223372036854775807)
+    then Ok (Long z) else Err Overflow
 
 -- an int32 of that value where it fits, else an int64
 abbrev pub int_of : ℤ → Result Value What
-int_of z = if int_le (negsuc 2147483647) z && int_le z (pos 2147483647) then Ok (Int z) else long_of z
+int_of z = if int_le (negsuc 2147483647) z && int_le z (pos 2147483647) then Ok (Int z)
+    else long_of z
 
 -- two int32 give an int32 where it fits; with an int64 the sum is one
 abbrev pub sum_of : Value-F Value → Value-F Value → Result Value What
@@ -56,7 +61,8 @@ without_name name doc = filter (λ field. not (bytes_eq field.0 name)) doc
 abbrev pub applied : UpdateKind → List ℕ → Value → Document → Result Document What
 applied Set name value doc = Ok (with_value name value doc)
 applied Unset name value doc = Ok (without_name name doc)
-applied Inc name value doc = increased (value_of name doc) value >>= λ sum. Ok (with_value name sum doc)
+applied Inc name value doc =
+    increased (value_of name doc) value >>= λ sum. Ok (with_value name sum doc)
 
 -- one operator after the other
 abbrev pub all_applied : List UpdateOp → Document → Result Document What
@@ -72,7 +78,8 @@ is_same_value (Some a) (Some b) = is_eq (value_cmp a b)
 
 -- the `_id` of a result has to be the old one
 abbrev pub with_old_id : Document → Document → Result Document What
-with_old_id doc new = if is_same_value (value_of id_name new) (value_of id_name doc) then Ok new else Err Immutable
+with_old_id doc new = if is_same_value (value_of id_name new) (value_of id_name doc) then Ok new
+    else Err Immutable
 
 -- the field `_id` of a document
 abbrev pub id_fields : Option Value → Document

@@ -26,8 +26,8 @@ impl Entry {
     }
 }
 
-/// A statement that was answered: its transaction, what it read at, its place in the transaction, counted from 1,
-/// what it asked and what it was told.
+/// A statement that was answered: its transaction, what it read at, its place in the transaction,
+/// counted from 1, what it asked and what it was told.
 #[derive(Drop)]
 pub struct Answered {
     pub tag: Tag,

@@ -1,5 +1,5 @@
--- Names of databases, collections and namespaces. The limits are those of this project, within those of the
--- MongoDB manual.
+-- Names of databases, collections and namespaces. The limits are those of this project, within
+-- those of the MongoDB manual.
 use Rattle.std.specs.Prelude.{◌≡◌, ℕ, ◌==◌, ◌&&◌, Bool, not, true, List, ◌∷◌, ◌++◌, length, nat_le}
 use Rattle.std.specs.List.{list_all}
 
@@ -9,11 +9,13 @@ is_name_byte b = nat_le 33 b && not (b == 127) && not (b == 36)
 
 -- 1 to 63 bytes, and no full stop
 abbrev pub is_database : List ℕ → Bool
-is_database name = nat_le 1 (length name) && nat_le (length name) 63 && list_all (λ b. is_name_byte b && not (b == 46)) name
+is_database name = nat_le 1 (length name) && nat_le (length name) 63
+    && list_all (λ b. is_name_byte b && not (b == 46)) name
 
 -- 1 to 200 bytes
 abbrev pub is_collection : List ℕ → Bool
-is_collection name = nat_le 1 (length name) && nat_le (length name) 200 && list_all is_name_byte name
+is_collection name =
+    nat_le 1 (length name) && nat_le (length name) 200 && list_all is_name_byte name
 
 -- the two names with a full stop between
 abbrev pub namespace_of : List ℕ → List ℕ → List ℕ

@@ -25,12 +25,13 @@ impl By {
 /// Why a shard refuses or ends a transaction. They have the numbers from 1 in this order.
 #[derive(Drop)]
 pub enum Cause {
-    /// A document that it writes has an unfinished version of another, or a commit above its read timestamp.
+    /// A document that it writes has an unfinished version of another, or a commit above its read
+    /// timestamp.
     WriteConflict { id: Id, by: By },
     /// It was begun here more than 60 seconds before.
     Expired { begun: u32, now: u32 },
-    /// It was aborted: 1 by the client, 2 with its session, 3 at a recovery, 4 as the connection was gone, 5 as
-    /// another shard refused it, 6 by a larger number.
+    /// It was aborted: 1 by the client, 2 with its session, 3 at a recovery, 4 as the connection
+    /// was gone, 5 as another shard refused it, 6 by a larger number.
     ClientAbort { why: u8 },
     /// The shard was started again since.
     Unavailable { carried: u32, have: u32 },

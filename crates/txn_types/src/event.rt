@@ -75,13 +75,15 @@ pub fn copy_replies(alloc: Global, replies: &Replies) -> Result<Replies, AllocEr
 /// What a node answers to an event.
 #[derive(Drop)]
 pub enum NodeAnswer {
-    /// The messages and replies that it gives out; `closed` is the number of the refusal that closes the connection.
+    /// The messages and replies that it gives out; `closed` is the number of the refusal that
+    /// closes the connection.
     Did {
         out: Envelopes,
         replies: Replies,
         closed: Option<u8>,
     },
-    /// A document that the statement touches is held by a prepared transaction; the event may be given again.
+    /// A document that the statement touches is held by a prepared transaction; the event may be
+    /// given again.
     Blocked {
         id: Id,
         tag: Tag,

@@ -14,8 +14,8 @@ use bson_core::{Bin, Doc, Text, Value, get};
 use std::alloc::{AllocError, Global};
 use std::cmp::Ordering;
 
-/// The value of a document's `_id`: of the kinds of values, a number, a text, a binary, an object id, a truth value or
-/// a moment. An int32 and an int64 of one value are one id.
+/// The value of a document's `_id`: of the kinds of values, a number, a text, a binary, an object
+/// id, a truth value or a moment. An int32 and an int64 of one value are one id.
 #[derive(Drop)]
 pub enum Id {
     Num(i64),

@@ -10,8 +10,8 @@ use crate::time::Ts;
 use sqlite_items::Items;
 use std::alloc::{AllocError, Global};
 
-/// A statement's part for one shard. `boot` is 0 at the transaction's first statement to the shard; `read_at` is 0 where
-/// the shard is to choose.
+/// A statement's part for one shard. `boot` is 0 at the transaction's first statement to the shard;
+/// `read_at` is 0 where the shard is to choose.
 #[derive(Drop)]
 pub struct Statement {
     pub tag: Tag,

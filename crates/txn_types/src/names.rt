@@ -16,7 +16,8 @@ use std::alloc::{AllocError, AllocFailed, Global};
 use std::cmp::Ordering;
 use std::marker::Model;
 
-/// The tag of a transaction: the router that began it, that router's boot, and the serial that it drew.
+/// The tag of a transaction: the router that began it, that router's boot, and the serial that it
+/// drew.
 #[derive(Clone, Copy, PartialEq, Eq)]
 pub struct Tag {
     pub router: u16,
@@ -35,7 +36,8 @@ impl Tag {
 /// Why two names make no namespace.
 #[derive(Clone, Copy, PartialEq, Eq)]
 pub enum NsErr {
-    /// The first is no name of a database: 1 to 63 bytes, none below 0x21, no 0x7F, no `$` and no full stop.
+    /// The first is no name of a database: 1 to 63 bytes, none below 0x21, no 0x7F, no `$` and no
+    /// full stop.
     Database,
     /// The second is no name of a collection: 1 to 200 bytes, none below 0x21, no 0x7F and no `$`.
     Collection,
@@ -59,7 +61,8 @@ impl<T: Drop> From<AllocFailed<T>> for NsErr {
     }
 }
 
-/// A namespace: a database name, a full stop and a collection name, in UTF-8. Contracts see its bytes.
+/// A namespace: a database name, a full stop and a collection name, in UTF-8. Contracts see its
+/// bytes.
 #[derive(Drop)]
 pub struct Ns {
     text: String,
@@ -126,9 +129,11 @@ fn is_collection(name: &str) -> bool
 impl Ns {
     /// The namespace of a collection in a database.
     pub fn of(alloc: Global, database: &str, collection: &str) -> Result<Ns, NsErr>
-        ensures ok { IfOk result (λ n. (n ≡ namespace_of database.now collection.now) × (is_database database.now ≡ true) × (is_collection collection.now ≡ true)) }
+        ensures ok { IfOk result (λ n. (n ≡ namespace_of database.now collection.now)
+            × (is_database database.now ≡ true) × (is_collection collection.now ≡ true)) }
         ensures database { (result ≡ Err NsErr.Database) ↔ (is_database database.now ≡ false) }
-        ensures collection { (result ≡ Err NsErr.Collection) ↔ ((is_database database.now ≡ true) × (is_collection collection.now ≡ false)) }
+        ensures collection { (result ≡ Err NsErr.Collection)
+            ↔ ((is_database database.now ≡ true) × (is_collection collection.now ≡ false)) }
     {
         if !is_database(database) {
             return Err(NsErr::Database);

@@ -15,7 +15,8 @@ impl NodeId {
     }
 }
 
-/// A session: one that a client named by 16 bytes, or the own one of a router's connection, for plain commands.
+/// A session: one that a client named by 16 bytes, or the own one of a router's connection, for
+/// plain commands.
 #[derive(Clone, Copy, PartialEq, Eq)]
 pub enum Lsid {
     Client([u8; 16]),

@@ -88,8 +88,8 @@ impl InsertItems {
     }
 }
 
-/// A filter, and what is done to the documents that match it: to all of them, or to the one of the least id. `index` is
-/// the item's place in the command.
+/// A filter, and what is done to the documents that match it: to all of them, or to the one of the
+/// least id. `index` is the item's place in the command.
 #[derive(Drop)]
 pub struct UpdateItem {
     pub index: u32,
@@ -125,8 +125,8 @@ pub fn copy_update_items(alloc: Global, items: &UpdateItems) -> Result<UpdateIte
     Ok(Items::from_vec(copy))
 }
 
-/// A filter whose documents are deleted: all of them, or the one of the least id. `index` is the item's place in the
-/// command.
+/// A filter whose documents are deleted: all of them, or the one of the least id. `index` is the
+/// item's place in the command.
 #[derive(Drop)]
 pub struct DeleteItem {
     pub index: u32,
@@ -167,7 +167,8 @@ pub enum Op {
         ns: Ns,
         docs: InsertItems,
     },
-    /// The documents that match, rising by id, or falling where `down`; at most `limit` of them, or all where it is 0.
+    /// The documents that match, rising by id, or falling where `down`; at most `limit` of them, or
+    /// all where it is 0.
     Find {
         ns: Ns,
         filter: Filter,
@@ -244,7 +245,8 @@ fn copy_cut(alloc: Global, cut: &Option<Id>) -> Result<Option<Id>, AllocError>
 pub enum OpReply {
     /// How many documents it met, and how many of them it changed. Both stand still at 2^63 - 1.
     Count { n: u64, modified: u64 },
-    /// The documents that were found. Where not all fit into one answer, `cut` is the id of the next.
+    /// The documents that were found. Where not all fit into one answer, `cut` is the id of the
+    /// next.
     Rows { docs: Docs, cut: Option<Id> },
 }
 

@@ -3,7 +3,8 @@ ghost use Rattle.std.specs.Prelude.{◌≡◌, ◌≤◌, ◌<◌, [], ◌∷◌
 use std::alloc::{AllocError, Global};
 use std::marker::Model;
 
-/// The participants of a transaction, each a shard and the boot at which it answered: at most 65,535.
+/// The participants of a transaction, each a shard and the boot at which it answered: at most
+/// 65,535.
 #[derive(Drop)]
 pub struct Parts {
     parts: Vec<(u16, u32)>,

@@ -3,8 +3,8 @@ ghost use Rattle.txn_types.specs.Clock.{next_time, wanted_ceiling};
 
 use std::marker::Model;
 
-/// A cluster time: seconds since 1970 in the high 32 bits, an increment in the low ones. Contracts see it as
-/// the number.
+/// A cluster time: seconds since 1970 in the high 32 bits, an increment in the low ones. Contracts
+/// see it as the number.
 #[derive(Clone, Copy, Debug, PartialEq, Eq, PartialOrd, Ord)]
 pub struct Ts(pub u64);
 
@@ -27,8 +27,8 @@ pub enum ClockErr {
     NeedCeiling { bound: Ts },
 }
 
-/// A hybrid logical clock: the last time that it told, and a ceiling that no time passes before the ceiling is
-/// raised, so that it may be made durable first.
+/// A hybrid logical clock: the last time that it told, and a ceiling that no time passes before the
+/// ceiling is raised, so that it may be made durable first.
 #[derive(Clone, Copy, PartialEq, Eq)]
 pub struct HybridClock {
     pub last: Ts,
@@ -52,11 +52,13 @@ impl HybridClock {
 
     /// Moves on to the next time, at the moment `wall` in seconds since 1970, and tells it.
     pub fn tick(&mut self, wall: u32) -> Result<Ts, ClockErr>
-        ensures ok { IfOk result (λ t. (t ≡ next_time self.old.last wall) × (self.new.last ≡ t) × (self.new.ceiling ≡ self.old.ceiling)) }
+        ensures ok { IfOk result (λ t. (t ≡ next_time self.old.last wall) × (self.new.last ≡ t)
+            × (self.new.ceiling ≡ self.old.ceiling)) }
         ensures err { OnErr result (self.new ≡ self.old) }
         ensures end { (result ≡ Err ClockErr.ClockEnd) ↔ (self.old.last ≡ 2 ^ 64 - 1) }
         ensures ceiling { (bound : ℕ) → (result ≡ Err (ClockErr.NeedCeiling bound))
-            ↔ ((self.old.last < 2 ^ 64 - 1) × (self.old.ceiling < next_time self.old.last wall) × (bound ≡ wanted_ceiling (next_time self.old.last wall))) }
+            ↔ ((self.old.last < 2 ^ 64 - 1) × (self.old.ceiling < next_time self.old.last wall)
+            × (bound ≡ wanted_ceiling (next_time self.old.last wall))) }
     {
         if self.last.0 == u64::MAX {
             return Err(ClockErr::ClockEnd);
@@ -73,10 +75,12 @@ impl HybridClock {
 
     /// Moves on to a time that was told elsewhere; the clock never moves back. It takes no memory.
     pub fn advance(&mut self, to: Ts) -> Result<(), ClockErr>
-        ensures ok { OnOk result ((self.new.last ≡ max self.old.last to) × (self.new.ceiling ≡ self.old.ceiling)) }
+        ensures ok { OnOk result
+            ((self.new.last ≡ max self.old.last to) × (self.new.ceiling ≡ self.old.ceiling)) }
         ensures err { OnErr result (self.new ≡ self.old) }
         ensures end { result ≢ Err ClockErr.ClockEnd }
-        ensures ceiling { (bound : ℕ) → (result ≡ Err (ClockErr.NeedCeiling bound)) ↔ ((self.old.ceiling < to) × (bound ≡ wanted_ceiling to)) }
+        ensures ceiling { (bound : ℕ) → (result ≡ Err (ClockErr.NeedCeiling bound))
+            ↔ ((self.old.ceiling < to) × (bound ≡ wanted_ceiling to)) }
     {
         if to.0 > self.ceiling.0 {
             return Err(ClockErr::NeedCeiling {

@@ -17,7 +17,8 @@ use Rattle.value_order.proofs.Pairs.{int_long, then_equal}
 pub one_place : (n : ℤ) → value_cmp (Int n) (Long n) ≡ Equal
 one_place n = int_long n n ∙ tied_itself int_cmp_total n
 
-level_of_numbers : (x y : Value-F Value) (m n : ℤ) → number_of_kind x ≡ Some m → number_of_kind y ≡ Some n → level field_cmp x y ≡ int_cmp m n
+level_of_numbers : (x y : Value-F Value) (m n : ℤ) → number_of_kind x ≡ Some m
+    → number_of_kind y ≡ Some n → level field_cmp x y ≡ int_cmp m n
 level_of_numbers (of.Int m) (of.Int n) i j h k = then_equal (int_cmp m n) ∙ (cc)
 level_of_numbers (of.Int m) (of.Long n) i j h k = then_equal (int_cmp m n) ∙ (cc)
 level_of_numbers (of.Long m) (of.Int n) i j h k = then_equal (int_cmp m n) ∙ (cc)
@@ -26,5 +27,6 @@ level_of_numbers (of.Int m) y i j h k = cc
 level_of_numbers (of.Long m) y i j h k = cc
 level_of_numbers x y i j h k = cc
 
-pub by_value : (a b : Value) (m n : ℤ) → number_in a ≡ Some m → number_in b ≡ Some n → value_cmp a b ≡ int_cmp m n
+pub by_value : (a b : Value) (m n : ℤ) → number_in a ≡ Some m → number_in b ≡ Some n
+    → value_cmp a b ≡ int_cmp m n
 by_value a b m n h k = opened a b ∙ level_of_numbers (out-Value a) (out-Value b) m n h k

@@ -6,8 +6,8 @@ ghost use Rattle.value_order.specs.Parts.{binary_cmp, field_cmp};
 use bson_core::{Bin, Name, Value};
 use std::cmp::Ordering;
 
-/// The bracket of the value's kind, 1 to 10: null, numbers, texts, documents, lists, binaries, object ids, truth values,
-/// dates, timestamps.
+/// The bracket of the value's kind, 1 to 10: null, numbers, texts, documents, lists, binaries,
+/// object ids, truth values, dates, timestamps.
 pub fn bracket(value: &Value) -> u8
     ensures { result ≡ bracket value.now }
 {
@@ -25,8 +25,9 @@ pub fn bracket(value: &Value) -> u8
     }
 }
 
-/// Where one value stands beside another: first by their brackets, then by what they are. The model is the MongoDB
-/// manual's comparison order of BSON types. It takes no memory, and time up to the size of the smaller value.
+/// Where one value stands beside another: first by their brackets, then by what they are. The model
+/// is the MongoDB manual's comparison order of BSON types. It takes no memory, and time up to the
+/// size of the smaller value.
 #[cycle(compare)]
 #[tactic(auto, using(crate::proofs::Pairs::pairs))]
 pub fn compare(a: &Value, b: &Value) -> Ordering

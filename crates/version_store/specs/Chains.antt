@@ -1,5 +1,6 @@
 -- The versions of one document as a store keeps them, and the documents of one namespace.
-use Rattle.std.specs.Prelude.{◌≡◌, ℕ, Bool, true, false, List, [], ◌∷◌, map, filter, is_some, unwrap_or, Option, Some, None, if◌then◌else◌}
+use Rattle.std.specs.Prelude.{◌≡◌, ℕ, Bool, true, false, List, [], ◌∷◌, map, filter, is_some}
+use Rattle.std.specs.Prelude.{unwrap_or, Option, Some, None, if◌then◌else◌}
 use Rattle.std.specs.Map.{lookup}
 use Rattle.std.specs.BTreeMap.{is_at}
 use Rattle.std.specs.Cmp.Lexicographic.{slice_cmp}
@@ -53,15 +54,16 @@ pub record AreCollections (groups : List (List ℕ × List (Id × List Version))
   pub collections : Each IsCollection groups
   pub ids : HaveIds (flattened groups)
 
--- what a store keeps: the keys rise, each has a version, all versions of a key but the first are committed, and each
--- document stands under its own id
+-- what a store keeps: the keys rise, each has a version, all versions of a key but the first are
+-- committed, and each document stands under its own id
 pub record IsKept (store : Versions) : Type 0 where
   pub rises : Rises place_cmp store
   pub histories : Each IsHistory store
   pub ids : HaveIds store
 
 -- the versions under a key
-abbrev pub versions_at : {K : Type 0} → (K → K → Ordering) → K → List (K × List Version) → List Version
+abbrev pub versions_at : {K : Type 0} → (K → K → Ordering) → K → List (K × List Version)
+    → List Version
 versions_at cmp key rows = unwrap_or (lookup (is_at (cmp key)) rows) []
 
 -- the write of a document, or of none, at a place
@@ -70,11 +72,14 @@ write_of place (Some doc) = Put place.0 place.1 doc
 write_of place None = Delete place.0 place.1
 
 -- with something else under one key
-abbrev pub changed_at : {K V : Type 0} → (K → K → Ordering) → (V → V) → K → List (K × V) → List (K × V)
-changed_at cmp f key rows = map (λ row. if is_eq (cmp key row.0) then (row.0, f row.1) else row) rows
+abbrev pub changed_at : {K V : Type 0} → (K → K → Ordering) → (V → V) → K → List (K × V)
+    → List (K × V)
+changed_at cmp f key rows =
+    map (λ row. if is_eq (cmp key row.0) then (row.0, f row.1) else row) rows
 
 -- and under several, one after the other
-abbrev pub changed_under : {K V : Type 0} → (K → K → Ordering) → (V → V) → List K → List (K × V) → List (K × V)
+abbrev pub changed_under : {K V : Type 0} → (K → K → Ordering) → (V → V) → List K → List (K × V)
+    → List (K × V)
 changed_under cmp f [] rows = rows
 changed_under cmp f (key ∷ keys) rows = changed_under cmp f keys (changed_at cmp f key rows)
 

@@ -22,11 +22,13 @@ touched_of ids docs = filter (λ row. touches ids row.0) docs
 
 -- those of these ids, id by id
 abbrev pub found_of : Documents → List Id → Documents
-found_of docs ids = filter_map (λ id. option_map (λ versions. (id, versions)) (lookup (is_at (id_cmp id)) docs)) ids
+found_of docs ids =
+    filter_map (λ id. option_map (λ versions. (id, versions)) (lookup (is_at (id_cmp id)) docs)) ids
 
 -- the held ones
 abbrev pub held_of : ℕ → Tag → Documents → List Held
-held_of at tag docs = filter_map (λ row. option_map (λ h. record { id = row.0; tag = h.0; ts = h.1 }) (holder at tag row.1)) docs
+held_of at tag docs = filter_map (λ row.
+    option_map (λ h. record { id = row.0; tag = h.0; ts = h.1 }) (holder at tag row.1)) docs
 
 -- what is seen of them
 abbrev pub rows_of : ℕ → Tag → Documents → List Row

@@ -144,7 +144,8 @@ impl Store {
 
     /// The document that the transaction sees there, or who holds it. It takes no memory.
     pub fn read(&self, ns: &Ns, id: &Id, at: Ts, tag: Tag) -> Result<Option<&Doc>, (Tag, Ts)>
-        ensures ok { IfOk result (λ doc. read self.now (ns.now, id.now) at tag ≡ Ok (option_copied doc)) }
+        ensures ok { IfOk result
+            (λ doc. read self.now (ns.now, id.now) at tag ≡ Ok (option_copied doc)) }
         ensures held { IfErr result (λ h. read self.now (ns.now, id.now) at tag ≡ Err h) }
     {
         let versions = self.versions(ns, id);
@@ -188,8 +189,10 @@ impl Store {
         at: Ts,
         tag: Tag,
     ) -> Result<Vec<(Id, Doc)>, ScanErr>
-        ensures rows { IfOk result (λ rows. scan self.now ns.now (option_copied ids.entry) at tag ≡ Ok rows.items) }
-        ensures held { IfErr result (λ e. IsHeld (scan self.now ns.now (option_copied ids.entry) at tag) e) }
+        ensures rows { IfOk result
+            (λ rows. scan self.now ns.now (option_copied ids.entry) at tag ≡ Ok rows.items) }
+        ensures held { IfErr result
+            (λ e. IsHeld (scan self.now ns.now (option_copied ids.entry) at tag) e) }
     {
         match self.collections.get(ns) {
             Some(collection) => collection.scan(self.alloc, ids, at, &tag),
@@ -216,7 +219,8 @@ impl Store {
         requires { IsKeptWrite write }
         ensures free { OnOk result (against at tag (versions_of self.old (place_of write)) ≡ None) }
         ensures ok { OnOk result (self.new ≡ with_write tag self.old write) }
-        ensures refused { IfErr result (λ e. IsRefused (place_of write) (against at tag (versions_of self.old (place_of write))) e.0) }
+        ensures refused { IfErr result (λ e. IsRefused (place_of write)
+            (against at tag (versions_of self.old (place_of write))) e.0) }
         ensures back { IfErr result (λ e. e.1 ≡ write) }
         ensures err { OnErr result (self.new ≡ self.old) }
     {
@@ -240,9 +244,11 @@ impl Store {
 
     /// Puts a version of the transaction where no other one has a version.
     fn lay(&mut self, tag: &Tag, ns: Ns, id: Id, version: Version) -> Result<(), (Ns, Id, Version)>
-        requires free { first (filter_map (other_writer_of tag.now) (versions_of self.old (ns, id))) ≡ None }
+        requires free { first (filter_map (other_writer_of tag.now) (versions_of self.old (ns, id)))
+            ≡ None }
         requires known { HasId id version.doc }
-        ensures ok { OnOk result (self.new ≡ put place_cmp (ns, id) (version ∷ without tag.now (versions_of self.old (ns, id))) self.old) }
+        ensures ok { OnOk result (self.new ≡ put place_cmp (ns, id)
+            (version ∷ without tag.now (versions_of self.old (ns, id))) self.old) }
         ensures back { IfErr result (λ e. e ≡ (ns, id, version)) }
         ensures err { OnErr result (self.new ≡ self.old) }
     {
@@ -291,10 +297,12 @@ impl Store {
     /// Puts a copy of a write of the transaction where no other one has a version, and adds what it
     /// replaced.
     fn lay_copy(&mut self, tag: &Tag, write: &Write, laid: &mut Vec<Laid>) -> Result<(), AllocError>
-        requires free { first (filter_map (other_writer_of tag.now) (versions_of self.old (place_of write.now))) ≡ None }
+        requires free { first (filter_map (other_writer_of tag.now)
+            (versions_of self.old (place_of write.now))) ≡ None }
         requires kept { IsKeptWrite write.now }
         ensures ok { OnOk result (self.new ≡ with_write tag.now self.old write.now) }
-        ensures laid { OnOk result (laid.new.items ≡ laid.old.items ++ laid_by tag.now self.old write.now ∷ []) }
+        ensures laid { OnOk result
+            (laid.new.items ≡ laid.old.items ++ laid_by tag.now self.old write.now ∷ []) }
         ensures err { OnErr result (self.new ≡ self.old) }
         ensures left { OnErr result (laid.new.items ≡ laid.old.items) }
     {
@@ -318,7 +326,8 @@ impl Store {
 
     /// A copy of the transaction's own version of a document.
     fn own_copy(&self, tag: &Tag, ns: &Ns, id: &Id) -> Result<Option<Version>, AllocError>
-        ensures { IfOk result (λ v. v ≡ find (is_of tag.now) (versions_of self.now (ns.now, id.now))) }
+        ensures { IfOk result
+            (λ v. v ≡ find (is_of tag.now) (versions_of self.now (ns.now, id.now))) }
     {
         match own(tag, self.versions(ns, id)) {
             Some(version) => Ok(Some(version.copy(self.alloc)?)),
@@ -370,7 +379,8 @@ impl Store {
 
     /// Gives the transaction's versions under these keys a stamp.
     fn restamp(&mut self, tag: &Tag, keys: &[Key], stamp: &Stamp)
-        ensures changed { self.new ≡ changed_under place_cmp (map (restamped tag.now stamp.now)) keys.now self.old }
+        ensures changed { self.new
+            ≡ changed_under place_cmp (map (restamped tag.now stamp.now)) keys.now self.old }
         ensures kept { IsKept self.old }
     {
         let _collections = self.collections();
@@ -381,7 +391,8 @@ impl Store {
 
     /// Gives the transaction's version under a key a stamp.
     fn restamp_at(&mut self, tag: &Tag, key: &Key, stamp: &Stamp)
-        ensures { self.new ≡ changed_at place_cmp (map (restamped tag.now stamp.now)) key.now self.old }
+        ensures { self.new
+            ≡ changed_at place_cmp (map (restamped tag.now stamp.now)) key.now self.old }
     {
         if let Some(collection) = self.collections.get_mut(key.ns()) {
             collection.restamp(tag, key.id(), stamp);
@@ -413,7 +424,8 @@ impl Store {
 
     /// Takes out the transaction's versions under these keys.
     fn take_out(&mut self, tag: &Tag, keys: &[Key])
-        ensures changed { self.new ≡ with_versions (changed_under place_cmp (without tag.now) keys.now self.old) }
+        ensures changed { self.new
+            ≡ with_versions (changed_under place_cmp (without tag.now) keys.now self.old) }
         ensures kept { IsKept self.old }
     {
         let _collections = self.collections();
@@ -425,7 +437,8 @@ impl Store {
 
     /// Takes out the transaction's version under a key.
     fn take_out_at(&mut self, tag: &Tag, key: &Key)
-        ensures { self.new ≡ with_versions (changed_at place_cmp (without tag.now) key.now self.old) }
+        ensures { self.new
+            ≡ with_versions (changed_at place_cmp (without tag.now) key.now self.old) }
     {
         if let Some(collection) = self.collections.get_mut(key.ns()) {
             collection.take_out(tag, key.id());

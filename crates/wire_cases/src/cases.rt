@@ -7,12 +7,14 @@ use std::alloc::{AllocError, Global};
 
 /// A file of cases that is run: how many there were, and the number of the line.
 ///
-/// A line is a comment, which begins with `#`, or one of these, whose bytes are in hexadecimal digits with spaces among
-/// them:
+/// A line is a comment, which begins with `#`, or one of these, whose bytes are in hexadecimal
+/// digits with spaces among them:
 ///
-/// - `KIND BYTES -> TEXT`: what the frame with this kind and these bytes as `b` holds, and it is also written as that frame;
+/// - `KIND BYTES -> TEXT`: what the frame with this kind and these bytes as `b` holds, and it is
+///   also written as that frame;
 ///   or why it isn't read. Kind 0 is a batch.
-/// - `cut KIND BYTES -> PLACE ..`: the place at which each shorter piece of the bytes is refused, from no byte on.
+/// - `cut KIND BYTES -> PLACE ..`: the place at which each shorter piece of the bytes is refused,
+///   from no byte on.
 /// - `body BYTES -> TEXT`: the same of a frame with that document as its body.
 #[derive(Drop)]
 pub struct Cases {

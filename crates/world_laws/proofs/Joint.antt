@@ -33,7 +33,8 @@ use Rattle.world_laws.proofs.ReadTimes.{reads_step, starts_reads}
 use Rattle.world_laws.proofs.RouterSteps.{routers_step, routers_sent}
 use Rattle.world_laws.proofs.Tags.{plans_step, starts_named}
 
-pub stands_step : (old : Nodes) (ran : Ran) (new : Nodes) → Happens old ran new → Stands old → Stands new
+pub stands_step : (old : Nodes) (ran : Ran) (new : Nodes) → Happens old ran new → Stands old
+    → Stands new
 stands_step old ran new h s =
     let asks = routers_sent old ran new h s.asks in
     let reads = reads_step old ran new h asks s.clocks s.reads in
@@ -49,24 +50,31 @@ stands_step old ran new h s =
       resolved = resolved_step old ran new h s.clocks s.resolved;
     }
 
-pub stands_run : (old : Nodes) (run : List Ran) (trace : List Nodes) (new : Nodes) → IsTrace old run trace new → Stands old → Stands new
+pub stands_run : (old : Nodes) (run : List Ran) (trace : List Nodes) (new : Nodes)
+    → IsTrace old run trace new → Stands old → Stands new
 stands_run old [] [] new h s = subst Stands (sym h) s
 stands_run old [] (nodes ∷ trace) new h s = absurd h
 stands_run old (ran ∷ run) [] new h s = absurd h
-stands_run old (ran ∷ run) (nodes ∷ trace) new h s = stands_run h.1.0 run trace new h.1.2 (stands_step old ran h.1.0 h.1.1 s)
+stands_run old (ran ∷ run) (nodes ∷ trace) new h s =
+    stands_run h.1.0 run trace new h.1.2 (stands_step old ran h.1.0 h.1.1 s)
 
 -- At a start.
 
 all_front : {A : Type 0} (P : A → Type 0) (xs ys : List A) → All P (xs ++ ys) → All P xs
 all_front P [] ys h = All-nil P
-all_front P (x ∷ xs) ys h = All-cons P x xs (All-head P x (xs ++ ys) h) (all_front P xs ys (All-tail P x (xs ++ ys) h))
+all_front P (x ∷ xs) ys h =
+    All-cons P x xs (All-head P x (xs ++ ys) h) (all_front P xs ys (All-tail P x (xs ++ ys) h))
 
 -- of the records of a node that started, those that it started from
-front_of : (P : Rec → Type 0) (number : ℕ) (recs : List Rec) (faults : ℕ) (n : NodeState) → started number recs faults ≡ Some n → All P n.records → All P recs
-front_of P number recs faults n is h = all_front P recs (boot_behind (image_of recs) ∷ []) (subst (λ (x : NodeState). All P x.records) (started_is number recs faults n is) h)
+front_of : (P : Rec → Type 0) (number : ℕ) (recs : List Rec) (faults : ℕ) (n : NodeState)
+    → started number recs faults ≡ Some n → All P n.records → All P recs
+front_of P number recs faults n is h = all_front P recs (boot_behind (image_of recs)
+    ∷ []) (subst (λ (x : NodeState). All P x.records) (started_is number recs faults n is) h)
 
-same_ceiling : (number : ℕ) (recs : List Rec) (faults : ℕ) (n : NodeState) → started number recs faults ≡ Some n → last_ceiling n.records ≡ last_ceiling recs
-same_ceiling number recs faults n is = ap (λ (x : NodeState). last_ceiling x.records) (started_is number recs faults n is) ∙ ceiling_on recs (boot_behind (image_of recs) ∷ [])
+same_ceiling : (number : ℕ) (recs : List Rec) (faults : ℕ) (n : NodeState)
+    → started number recs faults ≡ Some n → last_ceiling n.records ≡ last_ceiling recs
+same_ceiling number recs faults n is = ap (λ (x : NodeState). last_ceiling x.records)
+    (started_is number recs faults n is) ∙ ceiling_on recs (boot_behind (image_of recs) ∷ [])
 
 begins_more : (P : Named → Type 0) (r : Rec) → BeginsNamed NoName r → BeginsNamed P r
 begins_more P (rec.Boot boot) h = tt
@@ -79,27 +87,41 @@ begins_more P (rec.CoordDecision tag d) h = tt
 begins_more P (rec.CoordEnd tag) h = tt
 begins_more P (rec.Floor floor) h = tt
 
-starts_all : (P : Named → Type 0) (nodes : Nodes) (number : ℕ) (recs : List Rec) (faults : ℕ) (n : NodeState) → started number recs faults ≡ Some n → slice_get nodes.shards number ≡ Some n → DiskStands nodes n.records → ClockStands n × NodeReads number n × PlansNamed P n × NodeRecorded nodes n × (BootStands n × NodeTold (HasBooted nodes) n)
+starts_all : (P : Named → Type 0) (nodes : Nodes) (number : ℕ) (recs : List Rec) (faults : ℕ)
+    (n : NodeState) → started number recs faults ≡ Some n → slice_get nodes.shards number ≡ Some n
+    → DiskStands nodes n.records → ClockStands n × NodeReads number n × PlansNamed P n
+    × NodeRecorded nodes n × (BootStands n × NodeTold (HasBooted nodes) n)
 starts_all P nodes number recs faults n is there d = (
   starts_clock number recs faults n is d.ceiling,
-  (starts_reads number recs faults n is (front_of (RecBehind (last_ceiling recs)) number recs faults n is (subst (λ (k : ℕ). All (RecBehind k) n.records) (same_ceiling number recs faults n is) d.times))).0,
-  starts_named P number recs faults n is (All-weaker (BeginsNamed NoName) (BeginsNamed P) (begins_more P) recs (front_of (BeginsNamed NoName) number recs faults n is d.begins)),
-  starts_recorded nodes number recs faults n there is (front_of (RestsOn (HasCommit nodes)) number recs faults n is d.rests),
-  starts_boots nodes number recs faults n is (front_of (BeginsNamed NoName) number recs faults n is d.begins),
+  (starts_reads number recs faults n is (front_of (RecBehind (last_ceiling recs)) number recs faults
+      n is (subst (λ (k : ℕ). All (RecBehind k) n.records) (same_ceiling number recs faults n is)
+      d.times))).0,
+  starts_named P number recs faults n is (All-weaker (BeginsNamed NoName) (BeginsNamed P)
+      (begins_more P) recs (front_of (BeginsNamed NoName) number recs faults n is d.begins)),
+  starts_recorded nodes number recs faults n there is
+      (front_of (RestsOn (HasCommit nodes)) number recs faults n is d.rests),
+  starts_boots nodes number recs faults n is
+      (front_of (BeginsNamed NoName) number recs faults n is d.begins),
 )
 
-router_fresh : (chunks : Map) (nodes : Nodes) → IsFresh chunks nodes → (number : ℕ) (r : RouterState) → slice_get nodes.routers number ≡ Some r → RouterAsks r
-router_fresh chunks nodes h number r e = subst RouterAsks (sym (h.routers number r e).1) (All-nil (λ (entry : Lsid × Session). DoingAsks entry.1.doing))
+router_fresh : (chunks : Map) (nodes : Nodes) → IsFresh chunks nodes
+    → (number : ℕ) (r : RouterState) → slice_get nodes.routers number ≡ Some r → RouterAsks r
+router_fresh chunks nodes h number r e = subst RouterAsks (sym (h.routers number r e).1)
+    (All-nil (λ (entry : Lsid × Session). DoingAsks entry.1.doing))
 
-pub stands_fresh : (chunks : Map) (nodes : Nodes) → IsFresh chunks nodes → DisksStand nodes → Stands nodes
+pub stands_fresh : (chunks : Map) (nodes : Nodes) → IsFresh chunks nodes → DisksStand nodes
+    → Stands nodes
 stands_fresh chunks nodes h d =
-    let at = λ (number : ℕ) (n : NodeState) (e : slice_get nodes.shards number ≡ Some n). let s = h.shards number n e in starts_all (Contains (names_of nodes)) nodes number s.0 s.1 n s.2 e (d number n e) in
+    let at = λ (number : ℕ) (n : NodeState) (e : slice_get nodes.shards number ≡ Some n). let s =
+    h.shards number n e in
+    starts_all (Contains (names_of nodes)) nodes number s.0 s.1 n s.2 e (d number n e) in
     record {
       clocks = λ number n e. (at number n e).0;
       asks = router_fresh chunks nodes h;
       reads = record {
         shards = λ number n e. (at number n e).1;
-        times = subst (All (λ (e : Envelope). MsgBehind e.time e.msg)) (sym h.sent) (All-nil (λ (e : Envelope). MsgBehind e.time e.msg));
+        times = subst (All (λ (e : Envelope). MsgBehind e.time e.msg)) (sym h.sent)
+            (All-nil (λ (e : Envelope). MsgBehind e.time e.msg));
         answers = subst (All (AnswersBehind nodes)) (sym h.sent) (All-nil (AnswersBehind nodes));
       };
       plans = λ number n e. (at number n e).2;
@@ -107,24 +129,29 @@ stands_fresh chunks nodes h d =
       tags = tags_fresh chunks nodes h;
       recorded = record {
         shards = λ number n e. (at number n e).3;
-        sent = subst (All (λ (e : Envelope). IsRecorded nodes e.msg)) (sym h.sent) (All-nil (λ (e : Envelope). IsRecorded nodes e.msg));
+        sent = subst (All (λ (e : Envelope). IsRecorded nodes e.msg)) (sym h.sent)
+            (All-nil (λ (e : Envelope). IsRecorded nodes e.msg));
       };
       boots = record {
         shards = λ number n e. (at number n e).4;
         routers = router_fresh_boots chunks nodes h;
-        sent = subst (All (EnvBoots (HasBooted nodes))) (sym h.sent) (All-nil (EnvBoots (HasBooted nodes)));
+        sent = subst (All (EnvBoots (HasBooted nodes))) (sym h.sent)
+            (All-nil (EnvBoots (HasBooted nodes)));
       };
       resolved = λ number n e. let s = h.shards number n e in starts_resolved number s.0 s.1 n s.2;
     }
 
 -- a new disk has one record, of its first boot
-pub new_disk : (nodes : Nodes) (number : ℕ) (faults : ℕ) (n : NodeState) → started number [] faults ≡ Some n → DiskStands nodes n.records
+pub new_disk : (nodes : Nodes) (number : ℕ) (faults : ℕ) (n : NodeState)
+    → started number [] faults ≡ Some n → DiskStands nodes n.records
 unfolding image_of
 new_disk nodes number faults n is =
     let one : DiskStands nodes (rec.Boot 1 ∷ []) = record {
       ceiling = omega arith;
       times = All-cons (RecBehind 0) (rec.Boot 1) [] tt (All-nil (RecBehind 0));
       begins = All-cons (BeginsNamed NoName) (rec.Boot 1) [] tt (All-nil (BeginsNamed NoName));
-      rests = All-cons (RestsOn (HasCommit nodes)) (rec.Boot 1) [] tt (All-nil (RestsOn (HasCommit nodes)));
+      rests = All-cons (RestsOn (HasCommit nodes)) (rec.Boot 1) [] tt
+          (All-nil (RestsOn (HasCommit nodes)));
     } in
-    subst (λ (x : NodeState). DiskStands nodes x.records) (sym (started_is number [] faults n is)) one
+    subst (λ (x : NodeState). DiskStands nodes x.records)
+    (sym (started_is number [] faults n is)) one

@@ -32,4 +32,5 @@ pub record MoveAsks (m : Move) : Type 0 where
   pub given : GivenAsks m.given
 
 abbrev pub AllRoutersAsk : Nodes → Type 0
-AllRoutersAsk nodes = (number : ℕ) (r : RouterState) → slice_get nodes.routers number ≡ Some r → RouterAsks r
+AllRoutersAsk nodes = (number : ℕ) (r : RouterState) → slice_get nodes.routers number ≡ Some r
+    → RouterAsks r

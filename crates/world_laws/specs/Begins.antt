@@ -1,6 +1,8 @@
--- Which transaction a router's step begins, and what stands of those that it began in this boot, so that a tag stands for one
--- begin.
-use Rattle.std.specs.Prelude.{◌≡◌, ◌≤◌, ◌⊎◌, ◌<ℤ◌, ◌+◌, ℕ, ℤ, Bool, true, false, List, All, Contains, Option, Some, None, IfSome, Result, Ok, slice_get, if◌then◌else◌}
+-- Which transaction a router's step begins, and what stands of those that it began in this boot, so
+-- that a tag stands for one begin.
+use Rattle.std.specs.Prelude.{◌≡◌, ◌≤◌, ◌⊎◌, ◌<ℤ◌, ◌+◌, ℕ, ℤ, Bool, true, false, List, All}
+use Rattle.std.specs.Prelude.{Contains, Option, Some, None, IfSome, Result, Ok, slice_get}
+use Rattle.std.specs.Prelude.{if◌then◌else◌}
 use Rattle.txn_types.specs.declared.event.Happening.{Happening}
 use Rattle.txn_types.specs.declared.event.Happening.TheVariants as what
 use Rattle.txn_types.specs.declared.event.NodeEvent.{NodeEvent}
@@ -28,26 +30,31 @@ use Rattle.txn_types.specs.Letters.{Named, named_in}
 use Rattle.cluster_core.specs.Nodes.{Nodes}
 use Rattle.cluster_core.specs.Parts.{names_of}
 
--- Which transaction a step begins: that of a statement which isn't refused, in a session that hasn't begun its number.
+-- Which transaction a step begins: that of a statement which isn't refused, in a session that
+-- hasn't begun its number.
 
 abbrev pub begins_unless : RouterState → Txn → Option Reply → Option Transaction → Option Named
 begins_unless s txn (Some refusal) own = None
 begins_unless s txn None (Some own) = None
-begins_unless s txn None None = Some (record { tag = next_tag s; lsid = txn.lsid; number = txn.number })
+begins_unless s txn None None =
+    Some (record { tag = next_tag s; lsid = txn.lsid; number = txn.number })
 
 abbrev pub begins_of : RouterState → ℕ → Txn → Op → Option Named
-begins_of s conn txn op = begins_unless s txn (statement_refusal s conn (session_of s txn.lsid) txn op) (begun_in (session_of s txn.lsid) txn.number)
+begins_of s conn txn op = begins_unless s txn (statement_refusal s conn (session_of s txn.lsid) txn
+    op) (begun_in (session_of s txn.lsid) txn.number)
 
 abbrev pub begins_by : RouterState → ℕ → Option Txn → Op → Option Named
 begins_by s conn None op = begins_of s conn (by_itself s conn) op
 begins_by s conn (Some txn) op = begins_of s conn txn op
 
 abbrev pub begins_asked : RouterState → ℕ → Result Request Unserved → Option Named
-begins_asked s conn (Ok (request.Statement op txn at after more time)) = begins_by (met s time after) conn txn op
+begins_asked s conn (Ok (request.Statement op txn at after more time)) =
+    begins_by (met s time after) conn txn op
 begins_asked s conn other = None
 
 abbrev pub begins_at : RouterState → Happening → Option Named
-begins_at s (what.Client conn bytes) = if is_waiting s conn then None else begins_asked s conn (asked_in s.wall bytes)
+begins_at s (what.Client conn bytes) = if is_waiting s conn then None
+    else begins_asked s conn (asked_in s.wall bytes)
 begins_at s other = None
 
 -- without memory none
@@ -64,7 +71,8 @@ abbrev pub AllNames : (Named → Type 0) → List Post → Type 0
 AllNames P posts = All (PostNames P) posts
 
 abbrev pub DoingNames : (Named → Type 0) → Lsid → ℤ → Doing → Type 0
-DoingNames P lsid number (Begun t) = P (record { tag = t.tag; lsid = lsid; number = number }) × AllNames P t.waiting
+DoingNames P lsid number (Begun t) = P (record { tag = t.tag; lsid = lsid; number = number })
+    × AllNames P t.waiting
 DoingNames P lsid number (Sought seeking known) = Unit {0}
 
 abbrev pub EntryNames : (Named → Type 0) → Lsid × Session → Type 0
@@ -94,7 +102,8 @@ pub record DeedNames (P : Named → Type 0) (lsid : Lsid) (old : Session) (d : D
 
 -- each session goes on
 abbrev pub AllGo : RouterState → RouterState → Type 0
-AllGo s t = (lsid : Lsid) (old : Session) → session_of s lsid ≡ Some old → (new : Session) × (session_of t lsid ≡ Some new) × GoesOn old new
+AllGo s t = (lsid : Lsid) (old : Session) → session_of s lsid ≡ Some old
+    → (new : Session) × (session_of t lsid ≡ Some new) × GoesOn old new
 
 -- what is done at the router
 pub record MoveNames (P : Named → Type 0) (s : RouterState) (m : Move) : Type 0 where
@@ -102,15 +111,16 @@ pub record MoveNames (P : Named → Type 0) (s : RouterState) (m : Move) : Type 
   pub given : GivenNames P m.given
   pub goes : AllGo s m.state
 
--- What stands of the transactions that a router began in this boot, all of them in a list: their sessions have them still, or
--- have gone on to larger numbers.
+-- What stands of the transactions that a router began in this boot, all of them in a list: their
+-- sessions have them still, or have gone on to larger numbers.
 
 abbrev pub IsIn : Tag → Doing → Type 0
 IsIn tag (Begun t) = t.tag ≡ tag
 IsIn tag (Sought seeking known) = ⊥
 
 abbrev pub HasCome : RouterState → Named → Type 0
-HasCome s x = (session : Session) × (session_of s x.lsid ≡ Some session) × ((x.number <ℤ session.number) ⊎ ((session.number ≡ x.number) × IsIn x.tag session.doing))
+HasCome s x = (session : Session) × (session_of s x.lsid ≡ Some session)
+    × ((x.number <ℤ session.number) ⊎ ((session.number ≡ x.number) × IsIn x.tag session.doing))
 
 -- its tag was drawn here
 pub record IsDrawn (s : RouterState) (x : Named) : Type 0 where
@@ -122,17 +132,21 @@ pub record BegunOnce (sent : List Named) (number : ℕ) (s : RouterState) : Type
   pub own : s.number ≡ number
   pub begun : List Named
   pub sessions : RouterNames (Contains begun) s
-  pub named : (x : Named) → Contains sent x → x.tag.router ≡ number → x.tag.boot ≡ s.boot → Contains begun x
+  pub named : (x : Named) → Contains sent x → x.tag.router ≡ number → x.tag.boot ≡ s.boot
+      → Contains begun x
   pub drawn : (x : Named) → Contains begun x → IsDrawn s x
   pub come : (x : Named) → Contains begun x → HasCome s x
-  pub once : (x y : Named) → Contains begun x → Contains begun y → x.tag ≡ y.tag → (x.lsid ≡ y.lsid) × (x.number ≡ y.number)
-  pub one_tag : (x y : Named) → Contains begun x → Contains begun y → x.lsid ≡ y.lsid → x.number ≡ y.number → x.tag ≡ y.tag
+  pub once : (x y : Named) → Contains begun x → Contains begun y → x.tag ≡ y.tag
+      → (x.lsid ≡ y.lsid) × (x.number ≡ y.number)
+  pub one_tag : (x y : Named) → Contains begun x → Contains begun y → x.lsid ≡ y.lsid
+      → x.number ≡ y.number → x.tag ≡ y.tag
 
 abbrev pub AllBegunOnce : Nodes → Type 0
-AllBegunOnce nodes = (number : ℕ) (s : RouterState) → slice_get nodes.routers number ≡ Some s → BegunOnce (names_of nodes) number s
+AllBegunOnce nodes = (number : ℕ) (s : RouterState) → slice_get nodes.routers number ≡ Some s
+    → BegunOnce (names_of nodes) number s
 
--- What a step leaves of what tells tags apart: nothing is drawn, or the next serial is, for a transaction that is above its
--- session's number.
+-- What a step leaves of what tells tags apart: nothing is drawn, or the next serial is, for a
+-- transaction that is above its session's number.
 
 pub record Kept (s t : RouterState) : Type 0 where
   pub number : t.number ≡ s.number

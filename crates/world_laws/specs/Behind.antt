@@ -1,5 +1,5 @@
--- What stands beside the second part of the joint invariant: no time that a shard's state holds is above its clock, and no time
--- in a message above that of its envelope.
+-- What stands beside the second part of the joint invariant: no time that a shard's state holds is
+-- above its clock, and no time in a message above that of its envelope.
 use Rattle.std.specs.Prelude.{◌≡◌, ◌≤◌, ℕ, All, IfSome}
 use Rattle.txn_types.specs.declared.event.Happening.{Happening}
 use Rattle.txn_types.specs.declared.event.Happening.TheVariants as what
@@ -34,7 +34,8 @@ pub record PartBehind (last : ℕ) (p : Part) : Type 0 where
 
 -- what it coordinates
 abbrev pub CoordinatedBehind : ℕ → Coordinated → Type 0
-CoordinatedBehind last c = All (λ vote. vote.1 ≤ last) c.votes × IfSome c.decision (DecisionBehind last)
+CoordinatedBehind last c = All (λ vote. vote.1 ≤ last) c.votes
+    × IfSome c.decision (DecisionBehind last)
 
 abbrev pub CoordBehind : ℕ → Coordinations → Type 0
 CoordBehind last coords = All (λ c. CoordinatedBehind last c.1) coords

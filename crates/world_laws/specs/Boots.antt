@@ -1,5 +1,6 @@
--- The boots in messages: none is above that of the shard that it is of, but for that of a Recover, which is a token's. What
--- routers have of the shards that take part, and what shards coordinate and record, holds no other.
+-- The boots in messages: none is above that of the shard that it is of, but for that of a Recover,
+-- which is a token's. What routers have of the shards that take part, and what shards coordinate
+-- and record, holds no other.
 use Rattle.std.specs.Prelude.{◌≡◌, ◌≤◌, ℕ, List, All, Some, slice_get}
 use Rattle.txn_types.specs.declared.event.Happening.{Happening}
 use Rattle.txn_types.specs.declared.event.Happening.TheVariants as what
@@ -87,7 +88,8 @@ pub record MoveBoots (B : ℕ → ℕ → Type 0) (m : Move) : Type 0 where
   pub state : RouterBoots B m.state
   pub given : GivenBoots B m.given
 
--- What a shard has: the participants of what it coordinates, and of what its records and those in hand begin to.
+-- What a shard has: the participants of what it coordinates, and of what its records and those in
+-- hand begin to.
 
 abbrev pub CoordinatedTold : (ℕ → ℕ → Type 0) → Tag × Coordinated → Type 0
 CoordinatedTold B c = PartsTold B c.1.plan.parts
@@ -120,5 +122,6 @@ HasBooted nodes shard boot = AtShard nodes shard (λ n. boot ≤ n.core.part.boo
 
 pub record BootsStand (nodes : Nodes) : Type 0 where
   pub shards : EachShard nodes (λ number n. BootStands n × NodeTold (HasBooted nodes) n)
-  pub routers : (number : ℕ) (r : RouterState) → slice_get nodes.routers number ≡ Some r → RouterBoots (HasBooted nodes) r
+  pub routers : (number : ℕ) (r : RouterState) → slice_get nodes.routers number ≡ Some r
+      → RouterBoots (HasBooted nodes) r
   pub sent : All (EnvBoots (HasBooted nodes)) nodes.sent

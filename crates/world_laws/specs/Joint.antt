@@ -1,6 +1,7 @@
--- What holds of a cluster in each state that it comes to, as far as it is shown: of clocks, of the times that shards answer and
--- record, of what routers send, of what shards coordinate, of what tags stand for, of the records of what is told as committed, of
--- boots, and of what is resolved. Each event keeps it as a whole.
+-- What holds of a cluster in each state that it comes to, as far as it is shown: of clocks, of the
+-- times that shards answer and record, of what routers send, of what shards coordinate, of what
+-- tags stand for, of the records of what is told as committed, of boots, and of what is resolved.
+-- Each event keeps it as a whole.
 use Rattle.std.specs.Prelude.{◌<◌, ◌^◌, List, All}
 use Rattle.journal_rec.specs.declared.record.Rec.{Rec}
 use Rattle.txn_types.specs.Letters.{Named}
@@ -27,8 +28,9 @@ pub record Stands (nodes : Nodes) : Type 0 where
   pub boots : BootsStand nodes
   pub resolved : ResolvedStand nodes
 
--- What may be on the disks that a cluster starts from: the last ceiling is a time, no record has one above it, no commit of
--- several shards was begun, and what was decided as committed has the record of its commit.
+-- What may be on the disks that a cluster starts from: the last ceiling is a time, no record has
+-- one above it, no commit of several shards was begun, and what was decided as committed has the
+-- record of its commit.
 
 abbrev pub NoName : Named → Type 0
 NoName named = ⊥

@@ -1,5 +1,6 @@
--- The second part of the joint invariant with what stands beside it: a shard has its own number, its state and its records hold
--- no time above its clock and its last ceiling, those in hand none above theirs, and no message names one above its envelope's.
+-- The second part of the joint invariant with what stands beside it: a shard has its own number,
+-- its state and its records hold no time above its clock and its last ceiling, those in hand none
+-- above theirs, and no message names one above its envelope's.
 use Rattle.std.specs.Prelude.{◌≡◌, ◌++◌, ℕ, All}
 use Rattle.txn_types.specs.declared.message.Envelope.{Envelope}
 use Rattle.txn_types.specs.declared.message.Msg.{Msg}

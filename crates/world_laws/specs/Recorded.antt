@@ -1,6 +1,7 @@
--- What stands beside the part of the joint invariant on what is told as committed: what a shard holds of prepared and committed
--- transactions has its record. Here `V tag at` says that this shard has a record by which the transaction is prepared at that
--- time, and `C tag at` that some shard has one by which it commits then.
+-- What stands beside the part of the joint invariant on what is told as committed: what a shard
+-- holds of prepared and committed transactions has its record. Here `V tag at` says that this shard
+-- has a record by which the transaction is prepared at that time, and `C tag at` that some shard
+-- has one by which it commits then.
 use Rattle.std.specs.Prelude.{◌≡◌, ℕ, All, Contains, IfSome, Result, Ok, Err}
 use Rattle.txn_types.specs.declared.cause.Cause.{Cause}
 use Rattle.txn_types.specs.declared.decision.Decision.{Decision}
@@ -95,7 +96,8 @@ pub record StepRecorded (V C : Tag → ℕ → Type 0) (o : CoreStep) : Type 0 w
   pub rec : IfSome o.rec (RestsOn C)
   pub out : All (λ e. LetterRecorded V C o.core.part.shard e.msg) (given_out o.answer)
 
--- Of a shard: while it runs, what it holds has its record; and what its records apply of decisions was recorded.
+-- Of a shard: while it runs, what it holds has its record; and what its records apply of decisions
+-- was recorded.
 
 abbrev pub Here : NodeState → Tag → ℕ → Type 0
 Here n tag at = (r : Rec) × Contains n.records r × IsPreparedAs tag at r

@@ -1,5 +1,5 @@
--- What stands beside the sixth part of the joint invariant: what a shard coordinates, and what its records begin to coordinate,
--- was named by a message.
+-- What stands beside the sixth part of the joint invariant: what a shard coordinates, and what its
+-- records begin to coordinate, was named by a message.
 use Rattle.std.specs.Prelude.{All, Contains}
 use Rattle.journal_rec.specs.declared.record.Rec.{Rec}
 use Rattle.journal_rec.specs.declared.record.Rec.TheVariants as rec
@@ -11,7 +11,8 @@ use Rattle.shard_core.specs.Effect.{AllPlans}
 use Rattle.world_laws.specs.Clocks.{EachShard}
 
 abbrev pub BeginsNamed : (Named → Type 0) → Rec → Type 0
-BeginsNamed P (rec.CoordStart tag lsid number parts) = P (record { tag = tag; lsid = lsid; number = number })
+BeginsNamed P (rec.CoordStart tag lsid number parts) =
+    P (record { tag = tag; lsid = lsid; number = number })
 BeginsNamed P other = Unit {0}
 
 pub record PlansNamed (P : Named → Type 0) (n : NodeState) : Type 0 where

@@ -60,7 +60,8 @@ pub fn key_of(alloc: Global, write: &Write) -> Result<Key, AllocError>
 /// Lays a copy of the write over those in the map.
 fn lay(rows: &mut BTreeMap<Place, Kept>, alloc: Global, write: &Write) -> Result<(), AllocError>
     requires { HasOwnId write.now }
-    ensures { OnOk result (rows.new.entries ≡ put place_cmp (place_of write.now) write.now rows.old.entries) }
+    ensures { OnOk result
+        (rows.new.entries ≡ put place_cmp (place_of write.now) write.now rows.old.entries) }
 {
     let key = key_of(alloc, write)?;
     let write = Kept::new(write.copy(alloc)?);
@@ -83,7 +84,8 @@ fn lay_all(
     writes: &[Write],
 ) -> Result<(), AllocError>
     requires { AllHaveOwnIds writes.now }
-    ensures { OnOk result (rows.new.entries ≡ laid place_cmp rows.old.entries (map placed writes.now)) }
+    ensures { OnOk result
+        (rows.new.entries ≡ laid place_cmp rows.old.entries (map placed writes.now)) }
 {
     for write in writes {
         lay(rows, alloc, write)?;
@@ -103,7 +105,8 @@ fn unloaded(alloc: Global, mut rows: BTreeMap<Place, Kept>) -> Result<Writes, Al
     Ok(writes)
 }
 
-/// The last write to each document, of some writes and of those behind them, rising by namespace and id.
+/// The last write to each document, of some writes and of those behind them, rising by namespace
+/// and id.
 pub fn merged(alloc: Global, own: &[Write], writes: &Writes) -> Result<Writes, AllocError>
     requires { AllHaveOwnIds own.now }
     ensures { IfOk result (λ all. all ≡ write_set (own.now ++ writes.now)) }

@@ -6,7 +6,9 @@ pub returns-clause-read : goal.returns-clause-read
 returns-clause-read c = whole_again c.args.limit c.args.bytes.now
 
 pub returns-clause-found : goal.returns-clause-found
-returns-clause-found c = λ d read. (whole_found c.args.limit c.args.bytes.now d (λ i. omega (arith, c.type_inv.bytes i)) read).0
+returns-clause-found c = λ d read. (whole_found c.args.limit c.args.bytes.now d
+    (λ i. omega (arith, c.type_inv.bytes i)) read).0
 
 pub returns-clause-within : goal.returns-clause-within
-returns-clause-within c = λ d read. (whole_found c.args.limit c.args.bytes.now d (λ i. omega (arith, c.type_inv.bytes i)) read).1
+returns-clause-within c = λ d read. (whole_found c.args.limit c.args.bytes.now d
+    (λ i. omega (arith, c.type_inv.bytes i)) read).1

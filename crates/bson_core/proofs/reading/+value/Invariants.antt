@@ -22,4 +22,6 @@ abbrev pub decreases-read_value : goal.decreases-read_value
 decreases-read_value l = 6 * l.levels + 1
 
 abbrev pub invariant-read_elements-loop : goal.invariant-read_elements-loop
-invariant-read_elements-loop l = with_front l.fields.items (elements_at (value_by (nested_at l.levels)) l.start l.last_at (length l.bytes + 1 - l.counter) l.rest) ≡ elements_at (value_by (nested_at l.levels)) l.start l.last_at (length l.bytes + 1) l.bytes
+invariant-read_elements-loop l = with_front l.fields.items (elements_at
+    (value_by (nested_at l.levels)) l.start l.last_at (length l.bytes + 1 - l.counter) l.rest)
+    ≡ elements_at (value_by (nested_at l.levels)) l.start l.last_at (length l.bytes + 1) l.bytes

@@ -23,12 +23,15 @@ decreases-put_element l = 4 * length (element (l.name.now, coded l.value.now))
 
 abbrev pub invariant-put_elements-loop-name : goal.invariant-put_elements-loop-name
 invariant-put_elements-loop-name l = record {
-  written : l.out.items ++ elements (drop l.name-index l.fields) ≡ l.initial.out.items ++ elements l.fields;
+  written : l.out.items ++ elements (drop l.name-index l.fields)
+      ≡ l.initial.out.items ++ elements l.fields;
   small : length (elements (drop l.name-index l.fields)) ≤ length (elements l.fields);
 }
 
 abbrev pub invariant-put_numbered-loop-place : goal.invariant-put_numbered-loop-place
 invariant-put_numbered-loop-place l = record {
-  written : l.out.items ++ numbered l.place (map coded (drop l.place l.values)) ≡ l.initial.out.items ++ numbered 0 (map coded l.values);
-  small : length (numbered l.place (map coded (drop l.place l.values))) ≤ length (numbered 0 (map coded l.values));
+  written : l.out.items ++ numbered l.place (map coded (drop l.place l.values))
+      ≡ l.initial.out.items ++ numbered 0 (map coded l.values);
+  small : length (numbered l.place (map coded (drop l.place l.values)))
+      ≤ length (numbered 0 (map coded l.values));
 }

@@ -5,4 +5,5 @@ use Rattle.bson_text.specs.Text.{escaped}
 use Rattle.bson_text.proofs.printing.put_quoted.Given as goal
 
 abbrev pub invariant-loop-c : goal.invariant-loop-c
-invariant-loop-c l = string_bytes l.out ++ flat_map escaped (chars_rest l.c-iterator) ≡ string_bytes l.initial.out ++ flat_map escaped l.text
+invariant-loop-c l = string_bytes l.out ++ flat_map escaped (chars_rest l.c-iterator)
+    ≡ string_bytes l.initial.out ++ flat_map escaped l.text

@@ -9,5 +9,7 @@ loop-place-preserved c =
     let k = c.loop-place.place in
     let rows = c.args.rows.now in
     let rest = fault_behind c.args.shards (k + 1) (take (k + 1) rows) (drop (k + 1) rows) in
-    sym (fault_at c.args.shards k rows c.index-rows-place.result c.index-rows-place.is c.loop-place-test.true
-    ∙ ap (λ o. option_or o rest) (sym c.row_fault.ensures ∙ c.in_default.is)) ∙ c.loop-place.invariant
+    sym (fault_at c.args.shards k rows c.index-rows-place.result c.index-rows-place.is
+    c.loop-place-test.true
+    ∙ ap (λ o. option_or o rest) (sym c.row_fault.ensures ∙ c.in_default.is))
+    ∙ c.loop-place.invariant

@@ -8,6 +8,8 @@ use Rattle.client_cmd.proofs.fields.sessions_of.Given as goal
 
 abbrev pub invariant-loop-value : goal.invariant-loop-value
 invariant-loop-value l = record {
-  read : l.ids.items ++ filter_map (λ value. Some (session_by (out-Value value))) (drop l.value-index l.values) ≡ filter_map (λ value. Some (session_by (out-Value value))) l.values;
-  checked : check_each (λ value. session_in (codes "lsid") (out-Value value)) (drop l.value-index l.values) ≡ Ok None;
+  read : l.ids.items ++ filter_map (λ value. Some (session_by (out-Value value))) (drop
+      l.value-index l.values) ≡ filter_map (λ value. Some (session_by (out-Value value))) l.values;
+  checked : check_each (λ value. session_in (codes "lsid") (out-Value value)) (drop l.value-index
+      l.values) ≡ Ok None;
 }

@@ -12,5 +12,6 @@ members-preserved c =
     let (can, finite, same) = c.members.invariant in
     let e : Entry = (c.in-Some.key.now, c.in-Some._value.now) in
     let iter : c.members.key-iterator ≡ e ∷ c.next.new.self = grind (arith, common_steps) in
-    let known : list_any (bytes_eq (string_bytes e.0)) row_keys ≡ true = grind (arith, common_steps) in
+    let known : list_any (bytes_eq (string_bytes e.0)) row_keys ≡ true =
+    grind (arith, common_steps) in
     (tt, tt, sym (rw (iter, known) refl) ∙ same)

@@ -5,4 +5,5 @@ use Rattle.cluster_conf.proofs.Fronts.{with_rows}
 use Rattle.cluster_conf.proofs.chunks.rows_of.Given as goal
 
 abbrev pub invariant-loop-value : goal.invariant-loop-value
-invariant-loop-value l = with_rows l.rows.items (rows_of (items_view (drop l.value-index l.values))) ≡ rows_of (items_view l.values)
+invariant-loop-value l = with_rows l.rows.items (rows_of (items_view (drop l.value-index l.values)))
+    ≡ rows_of (items_view l.values)

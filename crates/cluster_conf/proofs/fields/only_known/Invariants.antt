@@ -7,4 +7,5 @@ abbrev pub invariant-members : goal.invariant-members
 invariant-members l =
     (goal.iterator-members).can_next l.key-iterator ×
     (goal.iterator-members).is_finite l.key-iterator ×
-    (unknown_in known_keys (members_view l.key-iterator) ≡ unknown_in known_keys (members_view l.table.entries))
+    (unknown_in known_keys (members_view l.key-iterator)
+    ≡ unknown_in known_keys (members_view l.table.entries))

@@ -5,4 +5,5 @@ use Rattle.cluster_conf.proofs.Fronts.{with_texts}
 use Rattle.cluster_conf.proofs.lists.texts_of.Given as goal
 
 abbrev pub invariant-loop-value : goal.invariant-loop-value
-invariant-loop-value l = with_texts l.texts (texts_of (items_view (drop l.value-index l.values))) ≡ texts_of (items_view l.values)
+invariant-loop-value l = with_texts l.texts (texts_of (items_view (drop l.value-index l.values)))
+    ≡ texts_of (items_view l.values)

@@ -4,7 +4,8 @@ use Rattle.cluster_play.proofs.disks.put_shards.Given as goal
 
 abbrev pub invariant-loop-node : goal.invariant-loop-node
 invariant-loop-node g l = record {
-  items : shard_disks l.shards.items ++ l.disks.items ≡ shard_disks l.initial.shards.items ++ l.initial.disks.items;
+  items : shard_disks l.shards.items ++ l.disks.items
+      ≡ shard_disks l.initial.shards.items ++ l.initial.disks.items;
   len : vec_len l.shards + vec_len l.disks ≡ vec_len l.initial.shards + vec_len l.initial.disks;
   capacity : vec_capacity l.initial.disks ≤ vec_capacity l.disks;
 }

@@ -8,5 +8,7 @@ use Rattle.cluster_play.proofs.front.enclosed.Goals as goal
 
 pub returns : goal.returns
 returns c =
-    let nil : c.loop-rest.rest.now ≡ [] = nil_from_length c.loop-rest.rest.now (eqb-true _ _ (sym c.is_empty.ensures ∙ c.loop-rest-test.false)) in
-    sym (ap (gathered c.loop-rest.text.items c.loop-rest.taken) (ap lines_of nil ∙ lines_of-nil)) ∙ c.loop-rest.invariant.found
+    let nil : c.loop-rest.rest.now ≡ [] = nil_from_length c.loop-rest.rest.now (eqb-true _ _
+    (sym c.is_empty.ensures ∙ c.loop-rest-test.false)) in
+    sym (ap (gathered c.loop-rest.text.items c.loop-rest.taken) (ap lines_of nil ∙ lines_of-nil))
+    ∙ c.loop-rest.invariant.found

@@ -6,7 +6,8 @@ use Rattle.cluster_play.proofs.front.enclosed.Given as goal
 
 abbrev pub invariant-loop-rest : goal.invariant-loop-rest
 invariant-loop-rest l = record {
-  found : gathered l.text.items l.taken (lines_of l.rest) ≡ option_map marked_by (up_to_marker (lines_of l.lines));
+  found : gathered l.text.items l.taken (lines_of l.rest)
+      ≡ option_map marked_by (up_to_marker (lines_of l.lines));
   few : l.taken + length l.rest ≤ length l.lines + 1;
 }
 

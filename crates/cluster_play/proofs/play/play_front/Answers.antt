@@ -11,13 +11,34 @@ pub new-player-requires : goal.new-player-requires
 new-player-requires g c = omega (arith, c.routers.ensures, c.shards.ensures.settings.some_routers)
 
 pub play_over-requires-clause-shards : goal.play_over-requires-clause-shards
-play_over-requires-clause-shards g c = omega (arith, c.in-Ok.ensures.started.shards, length-map c.in-Ok.nodes.shards.items (λ n. n.node), c.in-Ok.nodes.shards.ok.0, c.shards.ensures.settings.shards)
+play_over-requires-clause-shards g c = omega (
+  arith,
+  c.in-Ok.ensures.started.shards,
+  length-map c.in-Ok.nodes.shards.items (λ n. n.node),
+  c.in-Ok.nodes.shards.ok.0,
+  c.shards.ensures.settings.shards,
+)
 
 pub play_over-requires-clause-routers : goal.play_over-requires-clause-routers
-play_over-requires-clause-routers g c = omega (arith, c.in-Ok.ensures.started.routers, length-map c.in-Ok.nodes.routers.items (λ n. n.router), c.in-Ok.nodes.routers.ok.0, c.shards.ensures.settings.routers)
+play_over-requires-clause-routers g c = omega (
+  arith,
+  c.in-Ok.ensures.started.routers,
+  length-map c.in-Ok.nodes.routers.items (λ n. n.router),
+  c.in-Ok.nodes.routers.ok.0,
+  c.shards.ensures.settings.routers,
+)
 
 pub returns-in-Ok-clause-ended : goal.returns-in-Ok-clause-ended
 returns-in-Ok-clause-ended g c = λ lines reads.
-    let s : Schedule = record { conf = c.front.inside.conf; taken = c.front.inside.taken; lines = lines_of c.front.inside.lines.now } in
-    front_over ((d : g.row.D.Denot) → IsTrue (g.D.Disk.tells d)) lines s (nodes_of c.in-Ok.nodes.shards.items c.in-Ok.nodes.routers.items) (g.K.Sink.held c.args.out.now) (g.K.Sink.held c.play_over.new.out) c.play_over.result c.map.result.now c.new-player.result c.shards.result c.routers.result
-    (reads ∙ ap (λ (x : Schedule). Ok x) (sym c.front.view_is)) c.in-Ok.ensures.started c.map.ensures.map c.new-player.ensures c.shards.ensures.value c.routers.ensures c.play_over.ensures.ended
+    let s : Schedule = record {
+      conf = c.front.inside.conf;
+      taken = c.front.inside.taken;
+      lines = lines_of c.front.inside.lines.now;
+    } in
+    front_over ((d : g.row.D.Denot) → IsTrue (g.D.Disk.tells d)) lines s
+    (nodes_of c.in-Ok.nodes.shards.items c.in-Ok.nodes.routers.items)
+    (g.K.Sink.held c.args.out.now) (g.K.Sink.held c.play_over.new.out) c.play_over.result
+    c.map.result.now c.new-player.result c.shards.result c.routers.result
+    (reads ∙ ap (λ (x : Schedule). Ok x) (sym c.front.view_is)) c.in-Ok.ensures.started
+    c.map.ensures.map c.new-player.ensures c.shards.ensures.value c.routers.ensures
+    c.play_over.ensures.ended

@@ -6,6 +6,8 @@ use Rattle.cluster_world.proofs.listing.add_records.Given as goal
 
 abbrev pub invariant-loop-place : goal.invariant-loop-place
 invariant-loop-place l = record {
-  others : (recs : List Rec) → slice_set (map (λ j. j.now) l.journals) l.shard recs ≡ slice_set (map (λ j. j.now) l.initial.journals) l.shard recs;
-  list : l.list.items ≡ commits (slice_set (map (λ j. j.now) l.initial.journals) l.shard (take l.place l.records));
+  others : (recs : List Rec) → slice_set (map (λ j. j.now) l.journals) l.shard recs
+      ≡ slice_set (map (λ j. j.now) l.initial.journals) l.shard recs;
+  list : l.list.items
+      ≡ commits (slice_set (map (λ j. j.now) l.initial.journals) l.shard (take l.place l.records));
 }

@@ -1,4 +1,5 @@
-use Rattle.codec_laws.proofs.Headers.{fault_is_said, length_fault, large_fault, code_fault, flags_fault}
+use Rattle.codec_laws.proofs.Headers.{fault_is_said, length_fault, large_fault, code_fault}
+use Rattle.codec_laws.proofs.Headers.{flags_fault}
 use Rattle.codec_laws.proofs.faults.faults_of_messages_are_said.Goals as goal
 
 pub returns-clause-said : goal.returns-clause-said

@@ -7,4 +7,6 @@ use Rattle.command_parse.specs.Checks.{or_wrong}
 use Rattle.command_parse.proofs.batches.read_documents.Given as goal
 
 abbrev pub invariant-loop-value : goal.invariant-loop-value
-invariant-loop-value l = with_front (map (λ doc. doc.now) l.docs.items) (each (λ value. or_wrong (list_name l.batch) (document_in (out-Value value))) (drop l.value-index l.values)) ≡ with_front [] (each (λ value. or_wrong (list_name l.batch) (document_in (out-Value value))) l.values)
+invariant-loop-value l = with_front (map (λ doc. doc.now) l.docs.items) (each (λ value. or_wrong
+    (list_name l.batch) (document_in (out-Value value))) (drop l.value-index l.values)) ≡ with_front
+    [] (each (λ value. or_wrong (list_name l.batch) (document_in (out-Value value))) l.values)

@@ -4,4 +4,5 @@ use Rattle.command_parse.specs.Items.{each_at, insert_item}
 use Rattle.command_parse.proofs.building.insert_items.Given as goal
 
 abbrev pub invariant-loop-index : goal.invariant-loop-index
-invariant-loop-index l = with_front l.items (each_at insert_item l.index (map (λ doc. doc.now) (drop l.index l.docs))) ≡ with_front [] (each_at insert_item 0 (map (λ doc. doc.now) l.docs))
+invariant-loop-index l = with_front l.items (each_at insert_item l.index (map (λ doc. doc.now)
+    (drop l.index l.docs))) ≡ with_front [] (each_at insert_item 0 (map (λ doc. doc.now) l.docs))

@@ -6,4 +6,6 @@ use Rattle.coordinator.proofs.sending.prepares.Given as goal
 
 abbrev pub invariant-loop-participant : goal.invariant-loop-participant
 invariant-loop-participant l =
-    l.letters.items ++ all_sent_by (Shard l.from) l.time (map (prepare_to l.from l.tag l.plan) (drop l.participant-index l.to)) ≡ all_sent_by (Shard l.from) l.time (map (prepare_to l.from l.tag l.plan) l.to)
+    l.letters.items ++ all_sent_by (Shard l.from) l.time
+    (map (prepare_to l.from l.tag l.plan) (drop l.participant-index l.to))
+    ≡ all_sent_by (Shard l.from) l.time (map (prepare_to l.from l.tag l.plan) l.to)

@@ -14,5 +14,9 @@ returns-clause-any_moment g c tells opened =
     let same : c.into_disk.result ≡ new.disk = c.into_disk.ensures in
     let tells_1 = still _ _ c.append.ensures.tells tells in
     let tells_2 = still _ _ (ap d.tells same) tells_1 in
-    let second = c.start.ensures.any_moment tells_2 c.args.journal.frames c.args.payload.now (λ f now. first.each f (g.met.D.Disk.counts_now new.disk _ f tells_1 first.later (subst (λ x. d.may_leave x f) same now))) in
-    then_goes d c.args.journal.disk new.disk (disk_of c.start.result) P P P first (subst (λ x. LeavesOnly d.moment d.left_since x (disk_of c.start.result) P) same second) (λ f here. here) (λ f here. here)
+    let second = c.start.ensures.any_moment tells_2 c.args.journal.frames c.args.payload.now
+    (λ f now. first.each f (g.met.D.Disk.counts_now new.disk _ f tells_1 first.later
+    (subst (λ x. d.may_leave x f) same now))) in
+    then_goes d c.args.journal.disk new.disk (disk_of c.start.result) P P P first
+    (subst (λ x. LeavesOnly d.moment d.left_since x (disk_of c.start.result) P) same second)
+    (λ f here. here) (λ f here. here)

@@ -8,6 +8,14 @@ returns c =
     let kind : List ℕ = 1 ∷ [] in
     let boot = to_le_bytes w32 c.args.boot in
     let low : 59 ≤ length c.args.out.now = grind (arith, c.told-out) in
-    let end : length c.put.new.out ≡ c.put.result = grind (arith, c.told-out, c.put_kind-at.auto.out, c.put.auto.out, c.put_kind-at.ensures.place, c.put.ensures.place) in
+    let end : length c.put.new.out ≡ c.put.result = grind (
+      arith,
+      c.told-out,
+      c.put_kind-at.auto.out,
+      c.put.auto.out,
+      c.put_kind-at.ensures.place,
+      c.put.ensures.place,
+    ) in
     written_behind 59 c.put.result c.args.out.now c.put.new.out (kind ++ boot) low end
-    (two_put (take 59 c.args.out.now) _ _ kind c.to_le_bytes.result kind boot c.put_kind-at.ensures.front c.put.ensures.front refl c.to_le_bytes.ensures)
+    (two_put (take 59 c.args.out.now) _ _ kind c.to_le_bytes.result kind boot
+    c.put_kind-at.ensures.front c.put.ensures.front refl c.to_le_bytes.ensures)

@@ -8,6 +8,14 @@ returns c =
     let kind : List ℕ = c.args.kind ∷ [] in
     let time = time_bytes c.args.time in
     let low : 55 ≤ length c.args.out.now = grind (arith, c.told-out) in
-    let end : length c.put_time.new.out ≡ c.put_time.result = grind (arith, c.told-out, c.put_kind-at.auto.out, c.put_time.auto.out, c.put_kind-at.ensures.place, c.put_time.ensures.place) in
+    let end : length c.put_time.new.out ≡ c.put_time.result = grind (
+      arith,
+      c.told-out,
+      c.put_kind-at.auto.out,
+      c.put_time.auto.out,
+      c.put_kind-at.ensures.place,
+      c.put_time.ensures.place,
+    ) in
     written_behind 55 c.put_time.result c.args.out.now c.put_time.new.out (kind ++ time) low end
-    (two_put (take 55 c.args.out.now) _ _ kind time kind time c.put_kind-at.ensures.front c.put_time.ensures.front refl refl)
+    (two_put (take 55 c.args.out.now) _ _ kind time kind time c.put_kind-at.ensures.front
+    c.put_time.ensures.front refl refl)

@@ -11,7 +11,10 @@ returns-in-Commit-clause-front c =
     let start = take c.args.at c.args.out.now in
     let zeros : List ℕ = 0 ∷ 0 ∷ 0 ∷ [] in
     let first : List ℕ = 1 ∷ [] in
-    three_put start _ _ _ first c.to_le_bytes.result zeros first (to_le_bytes w64 c.in-Commit.at_time) zeros c.put-time.ensures.front c.put-zeros.ensures.front c.put.ensures.front refl (c.to_le_bytes.ensures ∙ ap (λ (n : ℕ). to_le_bytes w64 n) c.at_time.view_is) refl
+    three_put start _ _ _ first c.to_le_bytes.result zeros first
+    (to_le_bytes w64 c.in-Commit.at_time) zeros c.put-time.ensures.front
+    c.put-zeros.ensures.front c.put.ensures.front refl
+    (c.to_le_bytes.ensures ∙ ap (λ (n : ℕ). to_le_bytes w64 n) c.at_time.view_is) refl
     ∙ ap (λ (d : Decision). start ++ decision_bytes d) (sym c.in-Commit.is)
 
 pub returns-in-Abort-clause-front : goal.returns-in-Abort-clause-front
@@ -20,5 +23,7 @@ returns-in-Abort-clause-front c =
     let start = take c.args.at c.args.out.now in
     let first : List ℕ = 2 ∷ 0 ∷ 0 ∷ 0 ∷ 0 ∷ 0 ∷ 0 ∷ 0 ∷ 0 ∷ [] in
     let last : List ℕ = c.in-Abort.code ∷ [] in
-    three_put start _ _ _ first c.to_le_bytes-in-Abort.result last first (to_le_bytes w16 c.in-Abort.shard) last c.put-number.ensures.front c.put-last.ensures.front c.put-in-Abort.ensures.front refl c.to_le_bytes-in-Abort.ensures refl
+    three_put start _ _ _ first c.to_le_bytes-in-Abort.result last first
+    (to_le_bytes w16 c.in-Abort.shard) last c.put-number.ensures.front c.put-last.ensures.front
+    c.put-in-Abort.ensures.front refl c.to_le_bytes-in-Abort.ensures refl
     ∙ ap (λ (d : Decision). start ++ decision_bytes d) (sym c.in-Abort.is)

@@ -16,5 +16,6 @@ unfolding lsid_bytes
 returns-in-Own-clause-front c =
     let start = take c.args.at c.args.out.now in
     let zeros = 0 ∷ 0 ∷ 0 ∷ 0 ∷ 0 ∷ 0 ∷ [] in
-    three_put start _ _ _ (1 ∷ []) _ zeros (1 ∷ []) _ zeros c.put-own.ensures.front c.put_own-zeros.ensures.front c.put-in-Own.ensures.front refl refl refl
+    three_put start _ _ _ (1 ∷ []) _ zeros (1 ∷ []) _ zeros c.put-own.ensures.front
+    c.put_own-zeros.ensures.front c.put-in-Own.ensures.front refl refl refl
     ∙ ap (λ (l : Lsid). start ++ lsid_bytes l) (sym c.in-Own.is)

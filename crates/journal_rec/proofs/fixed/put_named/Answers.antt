@@ -9,5 +9,7 @@ unfolding number_bytes
 returns-clause-front c =
     let tag = tag_bytes c.args.tag in
     let lsid = lsid_bytes c.args.lsid.now in
-    three_put (take c.args.at c.args.out.now) _ _ _ tag lsid c.to_le_bytes.result tag lsid (number_bytes c.args.number)
-    c.put_tag-session.ensures.front c.put_lsid-digits.ensures.front c.put.ensures.front refl refl (c.to_le_bytes.ensures ∙ ap number_bytes (to_z-of_z w64 c.args.number c.ranges.number))
+    three_put (take c.args.at c.args.out.now) _ _ _ tag lsid c.to_le_bytes.result tag lsid
+    (number_bytes c.args.number)
+    c.put_tag-session.ensures.front c.put_lsid-digits.ensures.front c.put.ensures.front refl refl
+    (c.to_le_bytes.ensures ∙ ap number_bytes (to_z-of_z w64 c.args.number c.ranges.number))

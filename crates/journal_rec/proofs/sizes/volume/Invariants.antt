@@ -5,5 +5,6 @@ use Rattle.journal_rec.proofs.sizes.volume.Given as goal
 abbrev pub invariant-loop-write : goal.invariant-loop-write
 invariant-loop-write l = record {
   fits : l.bytes < 2 ^ 64;
-  counted : min (l.bytes + length (each_write_bytes (drop l.write-index l.writes))) (2 ^ 64 - 1) ≡ min (4 + length (each_write_bytes l.writes)) (2 ^ 64 - 1);
+  counted : min (l.bytes + length (each_write_bytes (drop l.write-index l.writes))) (2 ^ 64 - 1)
+      ≡ min (4 + length (each_write_bytes l.writes)) (2 ^ 64 - 1);
 }

@@ -5,5 +5,6 @@ use Rattle.journal_rec.proofs.writing.put_each.Given as goal
 abbrev pub invariant-loop-write : goal.invariant-loop-write
 invariant-loop-write l = record {
   fits : length (each_write_bytes (drop l.write-index l.writes)) ≤ 2147483647;
-  so_far : l.out.items ++ each_write_bytes (drop l.write-index l.writes) ≡ l.initial.out.items ++ each_write_bytes l.writes;
+  so_far : l.out.items ++ each_write_bytes (drop l.write-index l.writes)
+      ≡ l.initial.out.items ++ each_write_bytes l.writes;
 }

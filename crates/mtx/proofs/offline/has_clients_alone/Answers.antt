@@ -8,7 +8,8 @@ use Rattle.mtx.proofs.offline.has_clients_alone.Goals as goal
 
 pub returns : goal.returns
 returns c =
-    let none : c.loop-rest.rest.now ≡ [] = nil_from_length c.loop-rest.rest.now (eqb-true _ _ (sym c.is_empty.ensures ∙ c.loop-rest-test.false)) in
+    let none : c.loop-rest.rest.now ≡ [] = nil_from_length c.loop-rest.rest.now (eqb-true _ _
+    (sym c.is_empty.ensures ∙ c.loop-rest-test.false)) in
     sym (ap has_clients_alone lines_of-nil)
     ∙ ap (λ (r : List ℕ). has_clients_alone (lines_of r)) (sym none)
     ∙ c.loop-rest.invariant

@@ -10,12 +10,19 @@ pub returns-then-has_clients_alone-clause-played : goal.returns-then-has_clients
 returns-then-has_clients_alone-clause-played g c =
     let left = g.S.Source.left c.args.src.now in
     let bytes : List ℕ = c.deref-then-has_clients_alone.result.now in
-    let alone : has_clients_alone (lines_of bytes) ≡ true = ap (λ (b : List ℕ). has_clients_alone (lines_of b)) (c.deref-then-has_clients_alone.ensures.value ∙ sym c.deref.ensures.value) ∙ sym c.has_clients_alone.ensures ∙ c.if-has_clients_alone.true in
-    plain_way ((d : g.row.D.Denot) → IsTrue (g.D.Disk.tells d)) left bytes c.in-Ok.input.end (g.K.Sink.held c.args.out.now) (g.K.Sink.held c.play_plain.new.out) c.play_plain.result alone
-    (told_input left c.in-Ok.input.bytes.items bytes c.in-Ok.input.end c.in-Ok.input.end c.deref-then-has_clients_alone.ensures.value refl c.in-Ok.ensures.read)
+    let alone : has_clients_alone (lines_of bytes) ≡ true = ap (λ (b : List ℕ). has_clients_alone
+    (lines_of b)) (c.deref-then-has_clients_alone.ensures.value ∙ sym c.deref.ensures.value)
+    ∙ sym c.has_clients_alone.ensures ∙ c.if-has_clients_alone.true in
+    plain_way ((d : g.row.D.Denot) → IsTrue (g.D.Disk.tells d)) left bytes c.in-Ok.input.end
+    (g.K.Sink.held c.args.out.now) (g.K.Sink.held c.play_plain.new.out)
+    c.play_plain.result alone
+    (told_input left c.in-Ok.input.bytes.items bytes c.in-Ok.input.end c.in-Ok.input.end
+    c.deref-then-has_clients_alone.ensures.value refl c.in-Ok.ensures.read)
     c.play_plain.ensures.judged c.play_plain.ensures.text
 
 pub returns-clause-at_end : goal.returns-clause-at_end
 returns-clause-at_end g c = λ ok.
-    not_alone (g.S.Source.left c.args.src.now) c.in-Ok.input.bytes.items c.in-Ok.input.end (λ input. g.S.Source.left c.read_input.new.src ≡ Some []) c.in-Ok.ensures.read
-    (ap (λ (b : List ℕ). has_clients_alone (lines_of b)) (sym c.deref.ensures.value) ∙ sym c.has_clients_alone.ensures ∙ c.if-has_clients_alone.false)
+    not_alone (g.S.Source.left c.args.src.now) c.in-Ok.input.bytes.items c.in-Ok.input.end
+    (λ input. g.S.Source.left c.read_input.new.src ≡ Some []) c.in-Ok.ensures.read
+    (ap (λ (b : List ℕ). has_clients_alone (lines_of b)) (sym c.deref.ensures.value)
+    ∙ sym c.has_clients_alone.ensures ∙ c.if-has_clients_alone.false)

@@ -6,7 +6,8 @@ use Rattle.mtx.proofs.plain.play_lines.Given as goal
 abbrev pub invariant-loop-rest : goal.invariant-loop-rest
 invariant-loop-rest g l = record {
   later : g.K.Sink.fault_count l.initial.out ≤ g.K.Sink.fault_count l.out;
-  progress : Progress l.input l.rest l.lines l.desk (g.K.Sink.held l.initial.out) (g.K.Sink.held l.out);
+  progress : Progress l.input l.rest l.lines l.desk (g.K.Sink.held l.initial.out)
+      (g.K.Sink.held l.out);
   ready : IsReady l.desk;
 }
 

@@ -7,11 +7,18 @@ use Rattle.node_wire.proofs.answers.read_each_document.Goals as goal
 pub returns-in_err-doc : goal.returns-in_err-doc
 returns-in_err-doc c =
     let p = err_from_is_err_and c.from_residual.result c.from_residual.ensures.1 in
-    rw (p.1, p.2) (each_refused (document_at c.args.end) c.args.count c.loop.counter c.loop.docs.items c.loop.rest.now c.in_err-doc.field-0.0 (each_at (document_at c.args.end) c.args.count [] c.args.bytes.now) c.loop-test.true c.in_err-doc.ensures c.loop.invariant)
+    rw (p.1, p.2) (each_refused (document_at c.args.end) c.args.count c.loop.counter
+    c.loop.docs.items c.loop.rest.now c.in_err-doc.field-0.0 (each_at (document_at c.args.end)
+    c.args.count [] c.args.bytes.now) c.loop-test.true c.in_err-doc.ensures c.loop.invariant)
 
 pub loop-preserved : goal.loop-preserved
 loop-preserved c =
-    rw c.in_ok-push.ensures.items (each_more (document_at c.args.end) c.args.count c.loop.counter c.loop.docs.items c.loop.rest.now c.in_ok-doc.after.now c.in_ok-doc.doc (each_at (document_at c.args.end) c.args.count [] c.args.bytes.now) c.loop-test.true c.in_ok-doc.ensures c.loop.invariant)
+    rw c.in_ok-push.ensures.items (each_more (document_at c.args.end) c.args.count
+    c.loop.counter c.loop.docs.items c.loop.rest.now c.in_ok-doc.after.now c.in_ok-doc.doc
+    (each_at (document_at c.args.end) c.args.count [] c.args.bytes.now) c.loop-test.true
+    c.in_ok-doc.ensures c.loop.invariant)
 
 pub returns : goal.returns
-returns c = each_end (document_at c.args.end) c.args.count c.loop.counter c.loop.docs.items c.loop.rest.now (each_at (document_at c.args.end) c.args.count [] c.args.bytes.now) c.loop-test.false c.loop.invariant
+returns c = each_end (document_at c.args.end) c.args.count c.loop.counter c.loop.docs.items
+    c.loop.rest.now (each_at (document_at c.args.end) c.args.count [] c.args.bytes.now)
+    c.loop-test.false c.loop.invariant

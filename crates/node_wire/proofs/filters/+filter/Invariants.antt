@@ -15,4 +15,5 @@ abbrev pub decreases-read_each_filter : goal.decreases-read_each_filter
 decreases-read_each_filter l = 4 * l.levels + 1
 
 abbrev pub invariant-read_each_filter-loop : goal.invariant-read_each_filter-loop
-invariant-read_each_filter-loop l = each_at (filter_at l.levels l.end) (l.count - l.counter) l.filters.items l.rest ≡ each_at (filter_at l.levels l.end) l.count [] l.bytes
+invariant-read_each_filter-loop l = each_at (filter_at l.levels l.end) (l.count - l.counter)
+    l.filters.items l.rest ≡ each_at (filter_at l.levels l.end) l.count [] l.bytes

@@ -7,11 +7,18 @@ use Rattle.node_wire.proofs.filters.read_each_value.Goals as goal
 pub returns-in_err-value : goal.returns-in_err-value
 returns-in_err-value c =
     let p = err_from_is_err_and c.from_residual.result c.from_residual.ensures.1 in
-    rw (p.1, p.2) (each_refused (value_at c.args.end) c.args.count c.loop.counter c.loop.values.items c.loop.rest.now c.in_err-value.field-0.0 (each_at (value_at c.args.end) c.args.count [] c.args.bytes.now) c.loop-test.true c.in_err-value.ensures c.loop.invariant)
+    rw (p.1, p.2) (each_refused (value_at c.args.end) c.args.count c.loop.counter
+    c.loop.values.items c.loop.rest.now c.in_err-value.field-0.0 (each_at (value_at c.args.end)
+    c.args.count [] c.args.bytes.now) c.loop-test.true c.in_err-value.ensures c.loop.invariant)
 
 pub loop-preserved : goal.loop-preserved
 loop-preserved c =
-    rw c.in_ok-push.ensures.items (each_more (value_at c.args.end) c.args.count c.loop.counter c.loop.values.items c.loop.rest.now c.in_ok-value.after.now c.in_ok-value.value (each_at (value_at c.args.end) c.args.count [] c.args.bytes.now) c.loop-test.true c.in_ok-value.ensures c.loop.invariant)
+    rw c.in_ok-push.ensures.items (each_more (value_at c.args.end) c.args.count c.loop.counter
+    c.loop.values.items c.loop.rest.now c.in_ok-value.after.now c.in_ok-value.value
+    (each_at (value_at c.args.end) c.args.count [] c.args.bytes.now) c.loop-test.true
+    c.in_ok-value.ensures c.loop.invariant)
 
 pub returns : goal.returns
-returns c = each_end (value_at c.args.end) c.args.count c.loop.counter c.loop.values.items c.loop.rest.now (each_at (value_at c.args.end) c.args.count [] c.args.bytes.now) c.loop-test.false c.loop.invariant
+returns c = each_end (value_at c.args.end) c.args.count c.loop.counter c.loop.values.items
+    c.loop.rest.now (each_at (value_at c.args.end) c.args.count [] c.args.bytes.now)
+    c.loop-test.false c.loop.invariant

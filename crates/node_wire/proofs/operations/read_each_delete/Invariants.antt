@@ -3,4 +3,5 @@ use Rattle.node_wire.specs.Reading.{each_at, delete_item_at}
 use Rattle.node_wire.proofs.operations.read_each_delete.Given as goal
 
 abbrev pub invariant-loop : goal.invariant-loop
-invariant-loop l = each_at (delete_item_at l.end) (l.count - l.counter) l.items.items l.rest ≡ each_at (delete_item_at l.end) l.count [] l.bytes
+invariant-loop l = each_at (delete_item_at l.end) (l.count - l.counter) l.items.items l.rest
+    ≡ each_at (delete_item_at l.end) l.count [] l.bytes

@@ -7,11 +7,18 @@ use Rattle.node_wire.proofs.operations.read_each_insert.Goals as goal
 pub returns-in_err-item : goal.returns-in_err-item
 returns-in_err-item c =
     let p = err_from_is_err_and c.from_residual.result c.from_residual.ensures.1 in
-    rw (p.1, p.2) (each_refused (insert_item_at c.args.end) c.args.count c.loop.counter c.loop.items c.loop.rest.now c.in_err-item.field-0.0 (each_at (insert_item_at c.args.end) c.args.count [] c.args.bytes.now) c.loop-test.true c.in_err-item.ensures.item c.loop.invariant)
+    rw (p.1, p.2) (each_refused (insert_item_at c.args.end) c.args.count c.loop.counter c.loop.items
+    c.loop.rest.now c.in_err-item.field-0.0 (each_at (insert_item_at c.args.end) c.args.count []
+    c.args.bytes.now) c.loop-test.true c.in_err-item.ensures.item c.loop.invariant)
 
 pub loop-preserved : goal.loop-preserved
 loop-preserved c =
-    rw c.in_ok-push.ensures.ok (each_more (insert_item_at c.args.end) c.args.count c.loop.counter c.loop.items c.loop.rest.now c.in_ok-item.after.now c.in_ok-item.item (each_at (insert_item_at c.args.end) c.args.count [] c.args.bytes.now) c.loop-test.true c.in_ok-item.ensures.item c.loop.invariant)
+    rw c.in_ok-push.ensures.ok (each_more (insert_item_at c.args.end) c.args.count
+    c.loop.counter c.loop.items c.loop.rest.now c.in_ok-item.after.now c.in_ok-item.item
+    (each_at (insert_item_at c.args.end) c.args.count [] c.args.bytes.now) c.loop-test.true
+    c.in_ok-item.ensures.item c.loop.invariant)
 
 pub returns : goal.returns
-returns c = each_end (insert_item_at c.args.end) c.args.count c.loop.counter c.loop.items c.loop.rest.now (each_at (insert_item_at c.args.end) c.args.count [] c.args.bytes.now) c.loop-test.false c.loop.invariant
+returns c = each_end (insert_item_at c.args.end) c.args.count c.loop.counter c.loop.items
+    c.loop.rest.now (each_at (insert_item_at c.args.end) c.args.count [] c.args.bytes.now)
+    c.loop-test.false c.loop.invariant

@@ -7,11 +7,19 @@ use Rattle.node_wire.proofs.operations.read_each_update.Goals as goal
 pub returns-in_err-item : goal.returns-in_err-item
 returns-in_err-item c =
     let p = err_from_is_err_and c.from_residual.result c.from_residual.ensures.1 in
-    rw (p.1, p.2) (each_refused (update_item_at c.args.end) c.args.count c.loop.counter c.loop.items.items c.loop.rest.now c.in_err-item.field-0.0 (each_at (update_item_at c.args.end) c.args.count [] c.args.bytes.now) c.loop-test.true c.in_err-item.ensures c.loop.invariant)
+    rw (p.1, p.2) (each_refused (update_item_at c.args.end) c.args.count
+    c.loop.counter c.loop.items.items c.loop.rest.now c.in_err-item.field-0.0
+    (each_at (update_item_at c.args.end) c.args.count [] c.args.bytes.now) c.loop-test.true
+    c.in_err-item.ensures c.loop.invariant)
 
 pub loop-preserved : goal.loop-preserved
 loop-preserved c =
-    rw c.in_ok-push.ensures.items (each_more (update_item_at c.args.end) c.args.count c.loop.counter c.loop.items.items c.loop.rest.now c.in_ok-item.after.now c.in_ok-item.item (each_at (update_item_at c.args.end) c.args.count [] c.args.bytes.now) c.loop-test.true c.in_ok-item.ensures c.loop.invariant)
+    rw c.in_ok-push.ensures.items (each_more (update_item_at c.args.end) c.args.count
+    c.loop.counter c.loop.items.items c.loop.rest.now c.in_ok-item.after.now c.in_ok-item.item
+    (each_at (update_item_at c.args.end) c.args.count [] c.args.bytes.now) c.loop-test.true
+    c.in_ok-item.ensures c.loop.invariant)
 
 pub returns : goal.returns
-returns c = each_end (update_item_at c.args.end) c.args.count c.loop.counter c.loop.items.items c.loop.rest.now (each_at (update_item_at c.args.end) c.args.count [] c.args.bytes.now) c.loop-test.false c.loop.invariant
+returns c = each_end (update_item_at c.args.end) c.args.count c.loop.counter c.loop.items.items
+    c.loop.rest.now (each_at (update_item_at c.args.end) c.args.count [] c.args.bytes.now)
+    c.loop-test.false c.loop.invariant

@@ -7,8 +7,11 @@ use Rattle.node_wire.proofs.spell_causes.put_each_document.Goals as goal
 
 pub loop-doc-preserved : goal.loop-doc-preserved
 loop-doc-preserved c =
-    each_goes_on spelling c.args.docs.now c.loop-doc.doc-index c.doc-item.result c.loop-doc.out _ _ c.loop-doc-test.true c.loop-doc.invariant
-    (c.in_ok-put_document.ensures ∙ ap (λ (y : Document). joined c.loop-doc.out (spelling y)) c.doc-item.is)
+    each_goes_on spelling c.args.docs.now c.loop-doc.doc-index c.doc-item.result c.loop-doc.out _ _
+    c.loop-doc-test.true c.loop-doc.invariant
+    (c.in_ok-put_document.ensures
+    ∙ ap (λ (y : Document). joined c.loop-doc.out (spelling y)) c.doc-item.is)
 
 pub returns : goal.returns
-returns c = each_ends spelling c.args.docs.now c.loop-doc.doc-index _ _ c.loop-doc-test.false c.loop-doc.invariant
+returns c = each_ends spelling c.args.docs.now c.loop-doc.doc-index _ _ c.loop-doc-test.false
+    c.loop-doc.invariant

@@ -5,4 +5,5 @@ use Rattle.bson_core.specs.Spelling.{spelling}
 use Rattle.node_wire.proofs.spell_causes.put_each_document.Given as goal
 
 abbrev pub invariant-loop-doc : goal.invariant-loop-doc
-invariant-loop-doc l = joined l.out (flat_map spelling (drop l.doc-index l.docs)) ≡ joined l.initial.out (flat_map spelling l.docs)
+invariant-loop-doc l = joined l.out (flat_map spelling (drop l.doc-index l.docs))
+    ≡ joined l.initial.out (flat_map spelling l.docs)

@@ -7,8 +7,11 @@ use Rattle.node_wire.proofs.spell_filters.+put_filter.Goals as goal
 
 pub put_each_filter-loop-filter-preserved : goal.put_each_filter-loop-filter-preserved
 put_each_filter-loop-filter-preserved t c =
-    each_goes_on filter_bytes c.args.filters.now c.loop-filter.filter-index c.filter-item.result c.loop-filter.out _ _ c.loop-filter-test.true c.loop-filter.invariant
-    (c.in_ok-put_filter.ensures ∙ ap (λ (y : Filter). joined c.loop-filter.out (filter_bytes y)) c.filter-item.is)
+    each_goes_on filter_bytes c.args.filters.now c.loop-filter.filter-index c.filter-item.result
+    c.loop-filter.out _ _ c.loop-filter-test.true c.loop-filter.invariant
+    (c.in_ok-put_filter.ensures
+    ∙ ap (λ (y : Filter). joined c.loop-filter.out (filter_bytes y)) c.filter-item.is)
 
 pub put_each_filter-returns : goal.put_each_filter-returns
-put_each_filter-returns t c = each_ends filter_bytes c.args.filters.now c.loop-filter.filter-index _ _ c.loop-filter-test.false c.loop-filter.invariant
+put_each_filter-returns t c = each_ends filter_bytes c.args.filters.now c.loop-filter.filter-index _
+    _ c.loop-filter-test.false c.loop-filter.invariant

@@ -5,4 +5,5 @@ use Rattle.node_wire.specs.Spelling.{delete_item_bytes}
 use Rattle.node_wire.proofs.spell_operations.put_each_delete.Given as goal
 
 abbrev pub invariant-loop-item : goal.invariant-loop-item
-invariant-loop-item l = joined l.out (flat_map delete_item_bytes (drop l.item-index l.items)) ≡ joined l.initial.out (flat_map delete_item_bytes l.items)
+invariant-loop-item l = joined l.out (flat_map delete_item_bytes (drop l.item-index l.items))
+    ≡ joined l.initial.out (flat_map delete_item_bytes l.items)

@@ -7,8 +7,11 @@ use Rattle.node_wire.proofs.spell_operations.put_each_update.Goals as goal
 
 pub loop-item-preserved : goal.loop-item-preserved
 loop-item-preserved c =
-    each_goes_on update_item_bytes c.args.items.now c.loop-item.item-index c.item-item.result c.loop-item.out _ _ c.loop-item-test.true c.loop-item.invariant
-    (c.in_ok-put_update_item.ensures ∙ ap (λ (y : UpdateItem). joined c.loop-item.out (update_item_bytes y)) c.item-item.is)
+    each_goes_on update_item_bytes c.args.items.now c.loop-item.item-index c.item-item.result
+    c.loop-item.out _ _ c.loop-item-test.true c.loop-item.invariant
+    (c.in_ok-put_update_item.ensures
+    ∙ ap (λ (y : UpdateItem). joined c.loop-item.out (update_item_bytes y)) c.item-item.is)
 
 pub returns : goal.returns
-returns c = each_ends update_item_bytes c.args.items.now c.loop-item.item-index _ _ c.loop-item-test.false c.loop-item.invariant
+returns c = each_ends update_item_bytes c.args.items.now c.loop-item.item-index _ _
+    c.loop-item-test.false c.loop-item.invariant

@@ -6,4 +6,5 @@ pub returns-clause-read : goal.returns-clause-read
 returns-clause-read c = frame_again c.args.bytes.now
 
 pub returns-clause-found : goal.returns-clause-found
-returns-clause-found c = λ f read. frame_found c.args.bytes.now f (λ i. omega (arith, c.type_inv.bytes i)) read
+returns-clause-found c =
+    λ f read. frame_found c.args.bytes.now f (λ i. omega (arith, c.type_inv.bytes i)) read

@@ -5,6 +5,7 @@ use Rattle.op_msg.proofs.writing.put_documents.Given as goal
 
 abbrev pub invariant-loop-doc : goal.invariant-loop-doc
 invariant-loop-doc l = record {
-  written : l.out.items ++ flat_map spelling (drop l.doc-index l.docs) ≡ l.initial.out.items ++ flat_map spelling l.docs;
+  written : l.out.items ++ flat_map spelling (drop l.doc-index l.docs)
+      ≡ l.initial.out.items ++ flat_map spelling l.docs;
   small : length (flat_map spelling (drop l.doc-index l.docs)) ≤ length (flat_map spelling l.docs);
 }

@@ -6,5 +6,7 @@ use Rattle.op_msg.proofs.writing.put_older.Goals as goal
 pub returns-clause-ok : goal.returns-clause-ok
 returns-clause-ok c =
     let whole = length_reply c.args.frame.now in
-    let len : c.args.len ≡ 36 + length (spelling c.args.frame.now.body) = omega (arith, c.requires.sized) in
-    rw (c.in_ok-put_document.ensures.ok, c.in_ok-put_reply_front.ensures.ok, len, append_assoc) (refl {A = List ℕ})
+    let len : c.args.len ≡ 36 + length (spelling c.args.frame.now.body) =
+    omega (arith, c.requires.sized) in
+    rw (c.in_ok-put_document.ensures.ok, c.in_ok-put_reply_front.ensures.ok, len, append_assoc)
+    (refl {A = List ℕ})

@@ -11,11 +11,15 @@ drop_older-requires c =
     record {
       keys = λ o is differ.
           c.requires.keys o is
-          ∙ sym (ap (keys_of o.tag) c.in_ok-put_all.ensures.ok ∙ keys_with_others c.args.m.now.tag o.tag c.args.store.now c.args.writes.now c.collections-collections.ensures.rises differ);
+          ∙ sym (ap (keys_of o.tag) c.in_ok-put_all.ensures.ok
+          ∙ keys_with_others c.args.m.now.tag o.tag c.args.store.now c.args.writes.now
+          c.collections-collections.ensures.rises differ);
     }
 
 pub returns-clause-store : goal.returns-clause-store
 returns-clause-store c =
     c.drop_older.ensures
-    ∙ ap (λ (store : Versions). without_older c.args.m.now.tag (entry_of c.args.m.now.lsid c.args.lives.now) store) c.in_ok-put_all.ensures.ok
-    ∙ older_with c.args.m.now.tag (entry_of c.args.m.now.lsid c.args.lives.now) c.args.store.now c.args.writes.now c.collections-collections.ensures.rises
+    ∙ ap (λ (store : Versions). without_older c.args.m.now.tag
+    (entry_of c.args.m.now.lsid c.args.lives.now) store) c.in_ok-put_all.ensures.ok
+    ∙ older_with c.args.m.now.tag (entry_of c.args.m.now.lsid c.args.lives.now) c.args.store.now
+    c.args.writes.now c.collections-collections.ensures.rises

@@ -9,5 +9,6 @@ use Rattle.participant.proofs.putting.put_first.Goals as goal
 pub returns-in-Err-clause-old_lives : goal.returns-in-Err-clause-old_lives
 returns-in-Err-clause-old_lives c =
     c.take_out.ensures.left
-    ∙ ap (λ (live : List (Lsid × Open)). taken_out lsid_cmp c.args.m.now.lsid live) c.in_ok-put.ensures.ok
+    ∙ ap (λ (live : List (Lsid × Open)). taken_out lsid_cmp c.args.m.now.lsid live)
+    c.in_ok-put.ensures.ok
     ∙ undone c.args.m.now.lsid c.args.live c.args.lives.now c.requires.none

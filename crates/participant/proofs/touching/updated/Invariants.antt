@@ -6,5 +6,6 @@ use Rattle.participant.proofs.touching.updated.Given as goal
 
 abbrev pub invariant-loop-item : goal.invariant-loop-item
 invariant-loop-item l =
-    option_map (λ (others : List Id). l.all.items ++ others) (joined_tests (map (λ (item : UpdateItem). id_test item.filter) (drop l.item-index l.items)))
+    option_map (λ (others : List Id). l.all.items ++ others) (joined_tests
+    (map (λ (item : UpdateItem). id_test item.filter) (drop l.item-index l.items)))
     ≡ joined_tests (map (λ (item : UpdateItem). id_test item.filter) l.items)

@@ -12,7 +12,8 @@ invariant-loop-more l =
     record {
       sound : IsSound l.server;
       limit : l.feeder.limit ≡ 48000000;
-      going : MatchBool l.more (Going w l.connection l.server l.feeder l.text.items) (Served w l.server l.feeder l.text.items);
+      going : MatchBool l.more (Going w l.connection l.server l.feeder l.text.items)
+          (Served w l.server l.feeder l.text.items);
     }
 
 abbrev pub decreases-loop-more : goal.decreases-loop-more

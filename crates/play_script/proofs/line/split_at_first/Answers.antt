@@ -3,7 +3,8 @@ use Rattle.play_script.proofs.LineCuts.{lacks_from_none, first_from_some}
 use Rattle.play_script.proofs.line.split_at_first.Goals as goal
 
 pub returns-in_err-at : goal.returns-in_err-at
-returns-in_err-at c = rw c.from_residual.ensures (lacks_from_none c.args.byte c.args.bytes.now c.in_err-at.ensures)
+returns-in_err-at c =
+    rw c.from_residual.ensures (lacks_from_none c.args.byte c.args.bytes.now c.in_err-at.ensures)
 
 pub returns : goal.returns
 returns c =

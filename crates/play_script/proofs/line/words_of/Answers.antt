@@ -7,5 +7,7 @@ returns-in_default c = one_piece 32 c.args.line.now c.in_default.ensures
 
 pub returns-in-None : goal.returns-in-None
 returns-in-None c =
-    ap (pieces_at 32) c.in-Some.ensures.0 ∙ first_piece 32 c.in-Some.first.now c.in-Some.rest.now c.in-Some.ensures.1
-    ∙ ap (λ (ps : List (List ℕ)). c.in-Some.first.now ∷ ps) (one_piece 32 c.in-Some.rest.now c.in-None.ensures)
+    ap (pieces_at 32) c.in-Some.ensures.0
+    ∙ first_piece 32 c.in-Some.first.now c.in-Some.rest.now c.in-Some.ensures.1
+    ∙ ap (λ (ps : List (List ℕ)). c.in-Some.first.now ∷ ps)
+    (one_piece 32 c.in-Some.rest.now c.in-None.ensures)

@@ -6,4 +6,5 @@ use Rattle.query_eval.proofs.Operating.{SoFar}
 use Rattle.query_eval.proofs.evaluating.delete.Given as goal
 
 abbrev pub invariant-loop-item : goal.invariant-loop-item
-invariant-loop-item l = (modified : ℕ) × SoFar (delete_step document_rules) no_content without l.items (drop l.item-index l.items) l.fn.rows.items l.rows.items l.n modified
+invariant-loop-item l = (modified : ℕ) × SoFar (delete_step document_rules) no_content without
+    l.items (drop l.item-index l.items) l.fn.rows.items l.rows.items l.n modified

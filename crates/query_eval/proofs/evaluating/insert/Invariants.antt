@@ -7,4 +7,5 @@ use Rattle.query_eval.proofs.Operating.{SoFar}
 use Rattle.query_eval.proofs.evaluating.insert.Given as goal
 
 abbrev pub invariant-loop-item : goal.invariant-loop-item
-invariant-loop-item l = (modified : ℕ) × SoFar (insert_step document_rules) put_content laid_over l.items (drop l.item-index l.items) l.fn.rows.items l.rows.items l.n modified
+invariant-loop-item l = (modified : ℕ) × SoFar (insert_step document_rules) put_content laid_over
+    l.items (drop l.item-index l.items) l.fn.rows.items l.rows.items l.n modified

@@ -7,4 +7,5 @@ use Rattle.query_eval.proofs.Operating.{SoFar}
 use Rattle.query_eval.proofs.evaluating.update.Given as goal
 
 abbrev pub invariant-loop-item : goal.invariant-loop-item
-invariant-loop-item l = SoFar (update_step document_rules) put_content laid_over l.items (drop l.item-index l.items) l.fn.rows.items l.rows.items l.n l.modified
+invariant-loop-item l = SoFar (update_step document_rules) put_content laid_over l.items
+    (drop l.item-index l.items) l.fn.rows.items l.rows.items l.n l.modified

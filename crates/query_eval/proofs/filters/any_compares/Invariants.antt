@@ -5,4 +5,5 @@ use Rattle.query_eval.specs.Wanted.{wanted}
 use Rattle.query_eval.proofs.filters.any_compares.Given as goal
 
 abbrev pub invariant-loop-candidate : goal.invariant-loop-candidate
-invariant-loop-candidate l = list_any (compares (wanted l.cmp) l.value) (drop l.candidate-index l.candidates) ≡ list_any (compares (wanted l.cmp) l.value) l.candidates
+invariant-loop-candidate l = list_any (compares (wanted l.cmp) l.value) (drop l.candidate-index
+    l.candidates) ≡ list_any (compares (wanted l.cmp) l.value) l.candidates

@@ -11,7 +11,9 @@ some_copied (Some x) = refl
 pub returns-in-Ok : goal.returns-in-Ok
 returns-in-Ok c =
     c.is_some.ensures ∙ some_copied c.doc.result ∙ ap is_some c.doc.ensures
-    ∙ sym (holds_there doc_in c.args.id.now c.args.rows.now c.in-Ok.at c.index-rows-at.result c.requires c.in-Ok.ensures.within c.in-Ok.ensures.there)
+    ∙ sym (holds_there doc_in c.args.id.now c.args.rows.now c.in-Ok.at c.index-rows-at.result
+    c.requires c.in-Ok.ensures.within c.in-Ok.ensures.there)
 
 pub returns-in-Err : goal.returns-in-Err
-returns-in-Err c = sym (holds_between doc_in c.args.id.now c.args.rows.now c.in-Err._at c.in-Err.ensures.within c.in-Err.ensures.between)
+returns-in-Err c = sym (holds_between doc_in c.args.id.now c.args.rows.now c.in-Err._at
+    c.in-Err.ensures.within c.in-Err.ensures.between)

@@ -9,7 +9,8 @@ loop-low-preserved-in-Less c =
     record {
       ordered = omega arith;
       within = c.loop-low.invariant.within;
-      below = less_below c.args.id.now c.args.rows.now m c.index-rows-middle.result c.requires here (sym c.in-Less.ensures);
+      below = less_below c.args.id.now c.args.rows.now m c.index-rows-middle.result c.requires here
+          (sym c.in-Less.ensures);
       above = c.loop-low.invariant.above;
     }
 
@@ -21,5 +22,6 @@ loop-low-preserved c =
       ordered = omega arith;
       within = omega arith;
       below = c.loop-low.invariant.below;
-      above = greater_above c.args.id.now c.args.rows.now m c.index-rows-middle.result c.requires here (sym c.in-Greater.ensures);
+      above = greater_above c.args.id.now c.args.rows.now m c.index-rows-middle.result c.requires
+          here (sym c.in-Greater.ensures);
     }

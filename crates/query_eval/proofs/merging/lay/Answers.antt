@@ -9,7 +9,9 @@ loop-id-preserved c =
     let steps = c.in-Some.ensures.steps in
     let size = ap length steps.0 in
     record {
-      laid = ap (λ xs. laid_over xs (into_iter_items c.next.new.self)) c.in_ok-put.ensures ∙ ap (laid_over c.loop-id.all.items) (sym steps.0) ∙ c.loop-id.invariant.laid;
-      rising = subst IsRising (sym c.in_ok-put.ensures) (rising_put c.in-Some.id c.in-Some.held c.loop-id.all.items c.loop-id.invariant.rising);
+      laid = ap (λ xs. laid_over xs (into_iter_items c.next.new.self)) c.in_ok-put.ensures
+          ∙ ap (laid_over c.loop-id.all.items) (sym steps.0) ∙ c.loop-id.invariant.laid;
+      rising = subst IsRising (sym c.in_ok-put.ensures) (rising_put c.in-Some.id c.in-Some.held
+          c.loop-id.all.items c.loop-id.invariant.rising);
       count = omega arith;
     }

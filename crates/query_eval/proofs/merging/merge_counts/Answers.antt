@@ -6,7 +6,8 @@ use Rattle.query_eval.proofs.merging.merge_counts.Goals as goal
 pub loop-part-init : goal.loop-part-init
 loop-part-init c = record {
   n = capped_small (capped_sum (map n_of c.args.parts.now)) (sum_small (map n_of c.args.parts.now));
-  modified = capped_small (capped_sum (map modified_of c.args.parts.now)) (sum_small (map modified_of c.args.parts.now));
+  modified = capped_small (capped_sum (map modified_of c.args.parts.now))
+      (sum_small (map modified_of c.args.parts.now));
   n_small = omega arith;
   modified_small = omega arith;
 }

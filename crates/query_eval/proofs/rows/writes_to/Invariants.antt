@@ -7,7 +7,8 @@ use Rattle.query_eval.proofs.rows.writes_to.Given as goal
 
 abbrev pub invariant-loop-id : goal.invariant-loop-id
 invariant-loop-id l = record {
-  written : l.writes ++ map (write_of l.ns) (all_written (into_iter_items l.id-iterator)) ≡ map (write_of l.ns) (all_written (into_iter_items l.initial.id-iterator));
+  written : l.writes ++ map (write_of l.ns) (all_written (into_iter_items l.id-iterator))
+      ≡ map (write_of l.ns) (all_written (into_iter_items l.initial.id-iterator));
   known : AreKnown document_rules (rows_in (into_iter_items l.id-iterator));
   count : into_iter_len l.id-iterator ≡ length (into_iter_items l.id-iterator);
 }

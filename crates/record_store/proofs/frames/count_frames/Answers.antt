@@ -10,8 +10,10 @@ returns-in-None-clause-count g c tells at is le =
     let w = c.loop-size.invariant in
     let file = g.D.Disk.seen c.args.disk.now in
     let none = rw c.in-None.is at c.in_ok-frame_at.ensures.none in
-    stops file at c.loop-size.count c.loop-size.place is (w.walked tells (header_of file at le is)) (
-    subst (λ (f : List ℕ). ((gate : ℕ) × EndsAt f c.loop-size.place gate) ⊎ UnfitAt f c.loop-size.place) (w.looks tells).same (none (still _ _ w.tells tells))
+    stops file at c.loop-size.count c.loop-size.place is
+    (w.walked tells (header_of file at le is)) (
+    subst (λ (f : List ℕ). ((gate : ℕ) × EndsAt f c.loop-size.place gate)
+    ⊎ UnfitAt f c.loop-size.place) (w.looks tells).same (none (still _ _ w.tells tells))
     )
 
 pub loop-size-preserved : goal.loop-size-preserved
@@ -27,7 +29,9 @@ loop-size-preserved g c =
       few = omega (arith, w.few);
       size = w.size;
       walked = λ t header.
-          walked_on (d.seen c.args.disk.now) c.loop-size.count c.loop-size.place (w.walked t header) c.in-Some.size (
-          subst (λ (f : List ℕ). FrameAt f c.loop-size.place c.in-Some.size) (w.looks t).same (found.1 (still _ _ w.tells t))
+          walked_on (d.seen c.args.disk.now) c.loop-size.count c.loop-size.place (w.walked t header)
+          c.in-Some.size (
+          subst (λ (f : List ℕ). FrameAt f c.loop-size.place c.in-Some.size) (w.looks t).same
+          (found.1 (still _ _ w.tells t))
           );
     }

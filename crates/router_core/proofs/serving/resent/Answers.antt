@@ -5,4 +5,6 @@ use Rattle.router_core.proofs.Nudging.{nudges_next}
 use Rattle.router_core.proofs.serving.resent.Goals as goal
 
 pub loop-shard-preserved : goal.loop-shard-preserved
-loop-shard-preserved c = c.in_ok-push.ensures.ok ∙ ap (λ (posts : List Post). posts ++ (c.loop-shard.shard, Nudge) ∷ []) c.loop-shard.invariant ∙ sym (nudges_next c.loop-shard.shard)
+loop-shard-preserved c = c.in_ok-push.ensures.ok
+    ∙ ap (λ (posts : List Post). posts ++ (c.loop-shard.shard, Nudge) ∷ []) c.loop-shard.invariant
+    ∙ sym (nudges_next c.loop-shard.shard)

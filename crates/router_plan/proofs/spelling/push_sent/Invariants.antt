@@ -5,4 +5,6 @@ use Rattle.router_plan.specs.Spelling.{letter_of}
 use Rattle.router_plan.proofs.spelling.push_sent.Given as goal
 
 abbrev pub invariant-loop-shard : goal.invariant-loop-shard
-invariant-loop-shard l = l.out ++ all_sent_by (Router l.router) l.time (map letter_of (drop l.shard-index l.posts)) ≡ l.fn.out ++ all_sent_by (Router l.router) l.time (map letter_of l.posts)
+invariant-loop-shard l =
+    l.out ++ all_sent_by (Router l.router) l.time (map letter_of (drop l.shard-index l.posts))
+    ≡ l.fn.out ++ all_sent_by (Router l.router) l.time (map letter_of l.posts)

@@ -5,4 +5,5 @@ use Rattle.shard_image.proofs.Behind.{Comes}
 use Rattle.shard_image.proofs.change.image_of.Given as goal
 
 abbrev pub invariant-loop-rec : goal.invariant-loop-rec
-invariant-loop-rec l = Comes l.image l.rec-index (drop l.rec-index l.recs) (image_of l.recs) (first_refused l.recs)
+invariant-loop-rec l =
+    Comes l.image l.rec-index (drop l.rec-index l.recs) (image_of l.recs) (first_refused l.recs)

@@ -6,5 +6,7 @@ use Rattle.shard_image.proofs.order.are_free.Given as goal
 
 abbrev pub invariant-loop-write : goal.invariant-loop-write
 invariant-loop-write l =
-    list_all (λ write. is_none (against l.read_at l.tag (versions_of l.store (place_of write)))) (drop l.write-index l.writes)
-    ≡ list_all (λ write. is_none (against l.read_at l.tag (versions_of l.store (place_of write)))) l.writes
+    list_all (λ write. is_none (against l.read_at l.tag (versions_of l.store (place_of write))))
+    (drop l.write-index l.writes)
+    ≡ list_all (λ write. is_none (against l.read_at l.tag (versions_of l.store (place_of write))))
+    l.writes

@@ -9,7 +9,9 @@ use Rattle.shard_image.proofs.order.is_undisturbed.Goals as goal
 
 pub returns : goal.returns
 returns c =
-    let pending : c.image.inside.pending ≡ c.args.image.now.pending = ap (λ (i : Image). i.pending) c.image.view_is in
+    let pending : c.image.inside.pending ≡ c.args.image.now.pending =
+    ap (λ (i : Image). i.pending) c.image.view_is in
     c.are_undisturbed.ensures
-    ∙ ap (λ (pending : List Pending). not (list_any (λ q. same_lsid q.lsid c.args.lsid.now) pending) && is_none (pending_of pending c.args.tag.now)) (c.as_slice.ensures ∙ pending)
+    ∙ ap (λ (pending : List Pending). not (list_any (λ q. same_lsid q.lsid c.args.lsid.now) pending)
+    && is_none (pending_of pending c.args.tag.now)) (c.as_slice.ensures ∙ pending)
     ∙ sym (undisturbed_is c.args.image.now c.args.lsid.now c.args.tag.now)

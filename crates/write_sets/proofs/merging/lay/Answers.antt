@@ -9,6 +9,9 @@ use Rattle.write_sets.proofs.merging.lay.Goals as goal
 pub returns-in-Ok : goal.returns-in-Ok
 returns-in-Ok c =
     c.in-Ok.ensures.entries
-    ∙ inserted place_cmp place_total place_exact c.new.result c.new-write.result c.args.rows.now.entries
-    ∙ ap (λ (place : Place). put place_cmp place c.new-write.result c.args.rows.now.entries) (c.new.ensures ∙ c.in_ok-key.ensures)
-    ∙ ap (λ (write : Write). put place_cmp (place_of c.args.write.now) write c.args.rows.now.entries) (c.new-write.ensures ∙ c.in_ok-copy.ensures)
+    ∙ inserted place_cmp place_total place_exact c.new.result c.new-write.result
+    c.args.rows.now.entries
+    ∙ ap (λ (place : Place). put place_cmp place c.new-write.result c.args.rows.now.entries)
+    (c.new.ensures ∙ c.in_ok-key.ensures)
+    ∙ ap (λ (write : Write). put place_cmp (place_of c.args.write.now) write
+    c.args.rows.now.entries) (c.new-write.ensures ∙ c.in_ok-copy.ensures)

@@ -4,4 +4,6 @@ use Rattle.chunk_map.specs.Place.{shard_of}
 use Rattle.chunk_map.proofs.map.ChunkMap.of_documents.Given as goal
 
 abbrev pub invariant-loop-item : goal.invariant-loop-item
-invariant-loop-item l = l.shards.items ++ filter_map (λ item. option_map (shard_of l.self l.ns) (id_in item.doc)) (drop l.item-index l.items) ≡ filter_map (λ item. option_map (shard_of l.self l.ns) (id_in item.doc)) l.items
+invariant-loop-item l = l.shards.items ++ filter_map (λ item.
+    option_map (shard_of l.self l.ns) (id_in item.doc)) (drop l.item-index l.items)
+    ≡ filter_map (λ item. option_map (shard_of l.self l.ns) (id_in item.doc)) l.items

@@ -13,4 +13,5 @@ loop-preserved c =
     goes_on c.loop.self c.cut_next.new.self x.0 x.1 x.2 ∙ c.loop.invariant
 
 pub returns : goal.returns
-returns c = stops c.loop.self c.cut_next.new.self (λ again. c.in_ok-cut_next.ensures.last again c.if-branch.false) ∙ c.loop.invariant
+returns c = stops c.loop.self c.cut_next.new.self (λ again. c.in_ok-cut_next.ensures.last again
+    c.if-branch.false) ∙ c.loop.invariant

@@ -6,7 +6,8 @@ use Rattle.client_streams.proofs.connections.Connections.put.Goals as goal
 pub returns-in-Some : goal.returns-in-Some
 returns-in-Some c =
     ap (λ (cs : List Connection). slice_set cs c.in-Some.place c.args.connection) c.self.view_is
-    ∙ put_some c.args.connection c.args.connection c.args.self.now c.number.result c.in-Some.place c.number.ensures refl c.in-Some.ensures
+    ∙ put_some c.args.connection c.args.connection c.args.self.now c.number.result c.in-Some.place
+    c.number.ensures refl c.in-Some.ensures
 
 pub returns-in_ok-push-in-None : goal.returns-in_ok-push-in-None
 returns-in_ok-push-in-None c =

@@ -9,8 +9,10 @@ returns-in-Some c =
     c.turn.ensures
     ∙ ap turn_of (
     c.index.ensures
-    ∙ ap (λ (cs : List Connection). slice_index_or cs c.in-Some.place c.index.result.now) c.self.view_is
-    ∙ sym (found_some c.index.result.now c.args.self.now c.args.conn c.in-Some.place c.in-Some.ensures)
+    ∙ ap (λ (cs : List Connection). slice_index_or cs c.in-Some.place c.index.result.now)
+    c.self.view_is
+    ∙ sym (found_some c.index.result.now c.args.self.now c.args.conn c.in-Some.place
+    c.in-Some.ensures)
     )
 
 pub returns-in-None : goal.returns-in-None

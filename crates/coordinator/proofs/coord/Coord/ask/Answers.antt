@@ -1,4 +1,5 @@
-use Rattle.std.proofs.Common.{◌≡◌, Option, Result, Ok, Err, is_none, ap, sym, subst, ◌∙◌, MatchOption}
+use Rattle.std.proofs.Common.{◌≡◌, Option, Result, Ok, Err, is_none, ap, sym, subst, ◌∙◌}
+use Rattle.std.proofs.Common.{MatchOption}
 use Rattle.std.specs.BTreeMap.{BTreeMap}
 use Rattle.txn_types.specs.declared.names.Tag.{Tag}
 use Rattle.txn_types.specs.declared.decision.Decision.{Decision}
@@ -18,10 +19,16 @@ returns-clause-decision c =
     let tag = c.args.tag in
     elim c.match-get_mut.branch [
       | in-Some w ↦
-          subst (λ (o : Option Coordinated). MatchOption o (c.match-get_mut.result ≡ Err Unknown) (λ k. c.match-get_mut.result ≡ Ok k.decision)) (sym (held_there key tag w.in-Some.coordination.now entries coords c.new.ensures c.self.view_is w.in-Some.ensures.value))
-          (w.result-is ∙ ap (λ (d : Option Decision). let r : Result (Option Decision) CoordErr = Ok d in r) w.ask.ensures.decision)
+          subst (λ (o : Option Coordinated). MatchOption o (c.match-get_mut.result ≡ Err Unknown)
+          (λ k. c.match-get_mut.result ≡ Ok k.decision))
+          (sym (held_there key tag w.in-Some.coordination.now entries coords c.new.ensures
+          c.self.view_is w.in-Some.ensures.value))
+          (w.result-is ∙ ap (λ (d : Option Decision). let r : Result (Option Decision) CoordErr =
+          Ok d in r) w.ask.ensures.decision)
       | in-None w ↦
-          subst (λ (o : Option Coordinated). MatchOption o (c.match-get_mut.result ≡ Err Unknown) (λ k. c.match-get_mut.result ≡ Ok k.decision)) (sym (held_nowhere key tag entries coords c.new.ensures c.self.view_is w.in-None.ensures.value))
+          subst (λ (o : Option Coordinated). MatchOption o (c.match-get_mut.result ≡ Err Unknown)
+          (λ k. c.match-get_mut.result ≡ Ok k.decision)) (sym (held_nowhere key tag entries
+          coords c.new.ensures c.self.view_is w.in-None.ensures.value))
           (w.result-is)
     ]
 
@@ -33,11 +40,21 @@ returns-clause-after c =
     let tag = c.args.tag in
     elim c.match-get_mut.branch [
       | in-Some w ↦
-          subst (λ (o : Option Coordinated). MatchOption o (the_view c.match-get_mut.self-inside ≡ c.args.self.now) (λ k. the_view c.match-get_mut.self-inside ≡ asked c.args.tag c.args.router k c.args.self.now)) (sym (held_there key tag w.in-Some.coordination.now entries coords c.new.ensures c.self.view_is w.in-Some.ensures.value))
+          subst (λ (o : Option Coordinated). MatchOption o (the_view c.match-get_mut.self-inside
+          ≡ c.args.self.now) (λ k. the_view c.match-get_mut.self-inside ≡ asked c.args.tag
+          c.args.router k c.args.self.now)) (sym (held_there key tag w.in-Some.coordination.now
+          entries coords c.new.ensures c.self.view_is w.in-Some.ensures.value))
           (ap the_view w.self-inside-is
           ∙ (c.get_mut.follows.holds w.ask.new.self).0
-          ∙ changed (is_none w.in-Some.coordination.now.decision) key tag w.in-Some.coordination.now w.ask.new.self (with_asker c.args.router w.in-Some.coordination.now) entries coords c.new.ensures c.self.view_is c.get_mut.ensures.ordered w.in-Some.ensures.value w.ask.ensures.after)
+          ∙ changed (is_none w.in-Some.coordination.now.decision) key tag w.in-Some.coordination.now
+          w.ask.new.self (with_asker c.args.router w.in-Some.coordination.now) entries coords
+          c.new.ensures c.self.view_is c.get_mut.ensures.ordered w.in-Some.ensures.value
+          w.ask.ensures.after)
       | in-None w ↦
-          subst (λ (o : Option Coordinated). MatchOption o (the_view c.match-get_mut.self-inside ≡ c.args.self.now) (λ k. the_view c.match-get_mut.self-inside ≡ asked c.args.tag c.args.router k c.args.self.now)) (sym (held_nowhere key tag entries coords c.new.ensures c.self.view_is w.in-None.ensures.value))
-          (ap the_view w.self-inside-is ∙ ap (λ (m : BTreeMap Tag Coordinated). m.entries) c.get_mut.follows.holds-at-none ∙ c.self.view_is)
+          subst (λ (o : Option Coordinated). MatchOption o (the_view c.match-get_mut.self-inside
+          ≡ c.args.self.now) (λ k. the_view c.match-get_mut.self-inside
+          ≡ asked c.args.tag c.args.router k c.args.self.now)) (sym (held_nowhere key tag
+          entries coords c.new.ensures c.self.view_is w.in-None.ensures.value))
+          (ap the_view w.self-inside-is ∙ ap (λ (m : BTreeMap Tag Coordinated). m.entries)
+          c.get_mut.follows.holds-at-none ∙ c.self.view_is)
     ]

@@ -6,4 +6,5 @@ use Rattle.coordinator.proofs.coord.Coord.letters.Given as goal
 
 abbrev pub invariant-loop-key : goal.invariant-loop-key
 invariant-loop-key l =
-    l.letters.items ++ all_sent_by (Shard l.shard) l.time (resends l.shard l.key-iterator) ≡ all_sent_by (Shard l.shard) l.time (resends l.shard l.initial.key-iterator)
+    l.letters.items ++ all_sent_by (Shard l.shard) l.time (resends l.shard l.key-iterator)
+    ≡ all_sent_by (Shard l.shard) l.time (resends l.shard l.initial.key-iterator)

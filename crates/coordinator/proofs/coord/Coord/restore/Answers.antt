@@ -13,11 +13,19 @@ returns c =
     let tag = c.args.tag in
     elim c.match-get_mut.branch [
       | in-Some w ↦
-          subst (λ (o : Option Coordinated). IfSome o (λ k. the_view c.match-get_mut.self-inside ≡ with_coordinated c.args.tag (with_decision (Some c.args.decision) k) c.args.self.now)) (sym (held_there key tag w.in-Some.coordination.now entries coords c.new.ensures c.self.view_is w.in-Some.ensures.value))
+          subst (λ (o : Option Coordinated). IfSome o (λ k. the_view c.match-get_mut.self-inside
+          ≡ with_coordinated c.args.tag (with_decision (Some c.args.decision) k)
+          c.args.self.now)) (sym (held_there key tag w.in-Some.coordination.now entries coords
+          c.new.ensures c.self.view_is w.in-Some.ensures.value))
           (ap the_view w.self-inside-is
           ∙ (c.get_mut.follows.holds w.decide.new.self).0
-          ∙ changed (true) key tag w.in-Some.coordination.now w.decide.new.self (with_decision (Some c.args.decision) w.in-Some.coordination.now) entries coords c.new.ensures c.self.view_is c.get_mut.ensures.ordered w.in-Some.ensures.value w.decide.ensures)
+          ∙ changed (true) key tag w.in-Some.coordination.now w.decide.new.self (with_decision
+          (Some c.args.decision) w.in-Some.coordination.now) entries coords c.new.ensures
+          c.self.view_is c.get_mut.ensures.ordered w.in-Some.ensures.value w.decide.ensures)
       | in_default w ↦
-          subst (λ (o : Option Coordinated). IfSome o (λ k. the_view c.match-get_mut.self-inside ≡ with_coordinated c.args.tag (with_decision (Some c.args.decision) k) c.args.self.now)) (sym (held_nowhere key tag entries coords c.new.ensures c.self.view_is w.in_default.ensures.value))
+          subst (λ (o : Option Coordinated).
+          IfSome o (λ k. the_view c.match-get_mut.self-inside ≡ with_coordinated c.args.tag
+          (with_decision (Some c.args.decision) k) c.args.self.now)) (sym (held_nowhere key tag
+          entries coords c.new.ensures c.self.view_is w.in_default.ensures.value))
           (tt)
     ]

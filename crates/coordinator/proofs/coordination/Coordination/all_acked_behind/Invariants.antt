@@ -5,4 +5,5 @@ use Rattle.coordinator.proofs.coordination.Coordination.all_acked_behind.Given a
 
 abbrev pub invariant-loop-other : goal.invariant-loop-other
 invariant-loop-other l =
-    list_all (λ part. has_acked part.0 (with_ack l.shard l.self)) (drop l.other-index l.other-items) ≡ list_all (λ part. has_acked part.0 (with_ack l.shard l.self)) l.other-items
+    list_all (λ part. has_acked part.0 (with_ack l.shard l.self)) (drop l.other-index l.other-items)
+    ≡ list_all (λ part. has_acked part.0 (with_ack l.shard l.self)) l.other-items

@@ -4,4 +4,5 @@ use Rattle.coordinator.proofs.coordination.Coordination.unacked.Given as goal
 
 abbrev pub invariant-loop-part : goal.invariant-loop-part
 invariant-loop-part l =
-    l.wanted.items ++ filter (λ part. not (has_acked part.0 l.self)) (drop l.part-index l.part-items) ≡ filter (λ part. not (has_acked part.0 l.self)) l.part-items
+    l.wanted.items ++ filter (λ part. not (has_acked part.0 l.self)) (drop l.part-index
+    l.part-items) ≡ filter (λ part. not (has_acked part.0 l.self)) l.part-items

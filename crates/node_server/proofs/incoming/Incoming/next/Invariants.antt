@@ -8,5 +8,6 @@ invariant-loop g l = record {
   held : g.L.Link.held l.link ≡ g.L.Link.held l.initial.link;
   faults : g.L.Link.fault_count l.initial.link ≤ g.L.Link.fault_count l.link;
   ends : g.L.Link.end_count l.initial.link ≤ g.L.Link.end_count l.link;
-  came : Fetching l.initial.self.feeder.held l.self.feeder.held (g.L.Link.left l.initial.link) (g.L.Link.left l.link);
+  came : Fetching l.initial.self.feeder.held l.self.feeder.held (g.L.Link.left l.initial.link)
+      (g.L.Link.left l.link);
 }

@@ -7,4 +7,5 @@ use Rattle.participant.specs.declared.said.Open.{Open}
 use Rattle.participant.proofs.lives.Lives.len.Goals as goal
 
 pub returns : goal.returns
-returns c = subst (λ (rows : List (Lsid × Open)). Rises lsid_cmp rows) c.self.view_is (rises_of lsid_cmp c.self.inside.lives.entries c.len.ensures.ordered)
+returns c = subst (λ (rows : List (Lsid × Open)). Rises lsid_cmp rows) c.self.view_is
+    (rises_of lsid_cmp c.self.inside.lives.entries c.len.ensures.ordered)

@@ -13,7 +13,11 @@ use Rattle.participant.proofs.lives.Lives.put.Goals.{in-Ok, in-Err}
 pub returns-clause-ok : goal.returns-clause-ok
 returns-clause-ok c =
     elim c.match-insert.branch [
-      | in-Ok w ↦ rw w.result-is (w.in-Ok.ensures.entries ∙ inserted lsid_cmp lsid_total lsid_exact c.new.result c.args.live c.self.inside.lives.entries ∙ ap (λ (lsid : Lsid). put_in lsid_cmp lsid c.args.live c.self.inside.lives.entries) c.new.ensures ∙ ap (λ (rows : List (Lsid × Open)). put_in lsid_cmp c.args.lsid.now c.args.live rows) c.self.view_is)
+      | in-Ok w ↦ rw w.result-is (w.in-Ok.ensures.entries ∙ inserted lsid_cmp lsid_total
+          lsid_exact c.new.result c.args.live c.self.inside.lives.entries ∙ ap (λ (lsid : Lsid).
+          put_in lsid_cmp lsid c.args.live c.self.inside.lives.entries) c.new.ensures
+          ∙ ap (λ (rows : List (Lsid × Open)). put_in lsid_cmp c.args.lsid.now c.args.live rows)
+          c.self.view_is)
       | in-Err w ↦ rw w.result-is tt
     ]
 
@@ -24,7 +28,10 @@ returns-clause-there c =
       | in-Err w ↦
           λ some.
           absurd
-          (absent _ _ (found lsid_cmp c.new.result c.self.inside.lives.entries) w.in-Err.ensures.absent
-          (subst (λ (lsid : Lsid). IsSome (entry_of lsid c.self.inside.lives.entries)) (sym c.new.ensures)
-          (subst (λ (rows : List (Lsid × Open)). IsSome (entry_of c.args.lsid.now rows)) (sym c.self.view_is) some)))
+          (absent _ _ (found lsid_cmp c.new.result c.self.inside.lives.entries)
+          w.in-Err.ensures.absent
+          (subst (λ (lsid : Lsid). IsSome (entry_of lsid c.self.inside.lives.entries))
+          (sym c.new.ensures)
+          (subst (λ (rows : List (Lsid × Open)). IsSome (entry_of c.args.lsid.now rows))
+          (sym c.self.view_is) some)))
     ]

@@ -12,7 +12,8 @@ use Rattle.participant.proofs.lives.Lives.take_out.Goals as goal
 pub returns-clause-left : goal.returns-clause-left
 returns-clause-left c =
     c.remove.ensures.entries
-    ∙ removed lsid_cmp lsid_total lsid_exact c.new.result c.self.inside.lives.entries (rises_of lsid_cmp c.self.inside.lives.entries c.len-count.ensures.ordered)
+    ∙ removed lsid_cmp lsid_total lsid_exact c.new.result c.self.inside.lives.entries
+    (rises_of lsid_cmp c.self.inside.lives.entries c.len-count.ensures.ordered)
     ∙ ap (λ (lsid : Lsid). taken_out lsid_cmp lsid c.self.inside.lives.entries) c.new.ensures
     ∙ ap (λ (rows : List (Lsid × Open)). taken_out lsid_cmp c.args.lsid.now rows) c.self.view_is
 

@@ -9,7 +9,19 @@ use Rattle.participant.proofs.part.Participant.commit_at.Goals as goal
 
 pub invariant_of-self-2 : goal.invariant_of-self-2
 invariant_of-self-2 c =
-    let p : Part = record { shard = c.self.inside.shard; boot = c.self.inside.boot; sessions = c.self.inside.sessions; live = c.self.inside.live; pending = c.self.inside.pending; store = c.self.inside.store } in
-    let live : IsSomeAnd (session p c.args.m.now.lsid) (λ s. s.state ≡ state.Live) = subst (λ (q : Part). IsSomeAnd (session q c.args.m.now.lsid) (λ s. s.state ≡ state.Live)) (sym c.self.view_is) c.requires in
-    committed p c.args.m.now.lsid c.in_ok-live.live c.args.at c.end.new.self c.take_out.new.self c.decide.new.self c.self.invariant c.len-count.ensures live (sym c.in_ok-live.was ∙ c.take_out.ensures.taken) c.end.ensures c.take_out.ensures.left
-    (c.decide.ensures ∙ ap (λ (tag : Tag). stamped tag (stamp.At c.args.at) c.self.inside.store) c.tag.ensures)
+    let p : Part = record {
+      shard = c.self.inside.shard;
+      boot = c.self.inside.boot;
+      sessions = c.self.inside.sessions;
+      live = c.self.inside.live;
+      pending = c.self.inside.pending;
+      store = c.self.inside.store;
+    } in
+    let live : IsSomeAnd (session p c.args.m.now.lsid) (λ s. s.state ≡ state.Live) =
+    subst (λ (q : Part). IsSomeAnd (session q c.args.m.now.lsid) (λ s. s.state ≡ state.Live))
+    (sym c.self.view_is) c.requires in
+    committed p c.args.m.now.lsid c.in_ok-live.live c.args.at c.end.new.self
+    c.take_out.new.self c.decide.new.self c.self.invariant c.len-count.ensures live
+    (sym c.in_ok-live.was ∙ c.take_out.ensures.taken) c.end.ensures c.take_out.ensures.left
+    (c.decide.ensures
+    ∙ ap (λ (tag : Tag). stamped tag (stamp.At c.args.at) c.self.inside.store) c.tag.ensures)

@@ -8,4 +8,5 @@ use Rattle.participant.proofs.Places.{least_from}
 use Rattle.participant.proofs.part.Participant.least_prepared.Given as goal
 
 abbrev pub invariant-loop-place : goal.invariant-loop-place
-invariant-loop-place l = least_from l.least (filter_map (λ (entry : Lsid × Session). prepared_at entry.1.state) (drop l.place l.self.sessions.entries)) ≡ least_prepared l.self
+invariant-loop-place l = least_from l.least (filter_map (λ (entry : Lsid × Session).
+    prepared_at entry.1.state) (drop l.place l.self.sessions.entries)) ≡ least_prepared l.self

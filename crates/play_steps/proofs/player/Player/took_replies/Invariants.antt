@@ -5,6 +5,9 @@ use Rattle.play_steps.proofs.player.Player.took_replies.Given as goal
 
 abbrev pub invariant-loop-conn : goal.invariant-loop-conn
 invariant-loop-conn l = record {
-  text : l.out.items ++ flat_map (λ (r : ℕ × List ℕ). reply_line r.0 r.1) (drop l.conn-index l.replies) ≡ l.initial.out.items ++ flat_map (λ (r : ℕ × List ℕ). reply_line r.0 r.1) l.replies;
-  player : all_answered l.self (drop l.conn-index l.replies) ≡ all_answered l.initial.self l.replies;
+  text : l.out.items ++ flat_map (λ (r : ℕ × List ℕ).
+      reply_line r.0 r.1) (drop l.conn-index l.replies)
+      ≡ l.initial.out.items ++ flat_map (λ (r : ℕ × List ℕ). reply_line r.0 r.1) l.replies;
+  player : all_answered l.self (drop l.conn-index l.replies)
+      ≡ all_answered l.initial.self l.replies;
 }

@@ -10,4 +10,5 @@ returns-in-Ok-clause-any_moment g c tells frames hand left =
     let begun = c.in-Ok.journal.disk in
     let run = c.in-Ok.ensures.any_moment tells frames hand left in
     let now = still _ _ c.in-Ok.ensures.tells tells in
-    looked d c.args.disk begun (disk_in c.of.result) (Leaves frames hand) run (λ t f le leave. g.met.D.Disk.counts_now begun t f now le leave) (c.of.ensures.looks now)
+    looked d c.args.disk begun (disk_in c.of.result) (Leaves frames hand) run
+    (λ t f le leave. g.met.D.Disk.counts_now begun t f now le leave) (c.of.ensures.looks now)

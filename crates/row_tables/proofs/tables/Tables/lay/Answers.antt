@@ -6,4 +6,5 @@ use Rattle.row_tables.proofs.tables.Tables.lay.Goals as goal
 
 pub returns-in-Put-clause-ok : goal.returns-in-Put-clause-ok
 returns-in-Put-clause-ok c =
-    on_ok_weaker c.put.result (λ is ns. is ns ∙ sym (ap (written ns (rows_of c.args.self.now ns)) c.in-Put.is)) c.put.ensures.ok
+    on_ok_weaker c.put.result (λ is ns. is ns
+    ∙ sym (ap (written ns (rows_of c.args.self.now ns)) c.in-Put.is)) c.put.ensures.ok

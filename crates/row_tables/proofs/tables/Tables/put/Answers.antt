@@ -15,7 +15,8 @@ returns-in-Some-clause-ok c =
     let first = first_of ns tables at table (sym c.place_of.ensures.place ∙ c.in-Some.is) in
     on_ok_weaker c.put.result
     (λ is other.
-    ap (λ (t : Named). rows_in other (set tables at t)) (is ∙ ap (λ (t : Named). (t.0, new t.1)) c.index_mut-table.ensures.value)
+    ap (λ (t : Named). rows_in other (set tables at t))
+    (is ∙ ap (λ (t : Named). (t.0, new t.1)) c.index_mut-table.ensures.value)
     ∙ rows_set new ns other tables at table first)
     c.put.ensures.ok
 
@@ -24,5 +25,7 @@ returns-clause-ok c other =
     let ns = c.args.ns.now in
     let new = put_row c.args.id.now c.args.doc.now in
     let tables = c.args.self.now.tables.items in
-    ap (rows_in other) (c.in_ok-push.ensures.items ∙ ap (λ (t : Named). tables ++ t ∷ []) (c.in_ok-put.ensures.ok ∙ ap (λ (t : Named). (t.0, new t.1)) c.in_ok-table.ensures))
-    ∙ rows_behind new ns other tables (nowhere ns tables (sym c.place_of.ensures.place ∙ c.in_default.is))
+    ap (rows_in other) (c.in_ok-push.ensures.items ∙ ap (λ (t : Named). tables ++ t ∷ [])
+    (c.in_ok-put.ensures.ok ∙ ap (λ (t : Named). (t.0, new t.1)) c.in_ok-table.ensures))
+    ∙ rows_behind new ns other tables
+    (nowhere ns tables (sym c.place_of.ensures.place ∙ c.in_default.is))

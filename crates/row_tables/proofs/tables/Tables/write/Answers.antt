@@ -9,7 +9,8 @@ pub lay-requires : goal.lay-requires
 lay-requires c =
     subst HasOwnId (sym c.write-item.is)
     (kept_at c.as_slice-write-items.result.now c.loop-write.write-index c.write-item.result
-    (subst AllHaveOwnIds (sym c.as_slice-write-items.ensures.writes) c.as_slice-write-items.ensures.kept)
+    (subst AllHaveOwnIds (sym c.as_slice-write-items.ensures.writes)
+    c.as_slice-write-items.ensures.kept)
     c.loop-write-test.true)
 
 pub loop-write-preserved : goal.loop-write-preserved
@@ -18,4 +19,5 @@ loop-write-preserved c ns =
     c.in_ok-lay.ensures.ok ns
     ∙ ap (λ rows. written ns rows write) (c.loop-write.invariant ns)
     ∙ ap (written ns _) c.write-item.is
-    ∙ sym (under_more ns (rows_of c.args.self.now ns) c.as_slice-write-items.result.now c.loop-write.write-index write c.loop-write-test.true)
+    ∙ sym (under_more ns (rows_of c.args.self.now ns) c.as_slice-write-items.result.now
+    c.loop-write.write-index write c.loop-write-test.true)

@@ -6,9 +6,13 @@ use Rattle.shard_core.proofs.shard.Shard.deliver_statement_to.Goals as goal
 pub returns-in-Err-Memory-clause-ok : goal.returns-in-Err-Memory-clause-ok
 returns-in-Err-Memory-clause-ok c =
     let same : c.on_statement.new.self ≡ c.arrive.new.self = c.in-Err-Memory.ensures.err in
-    let at : c.on_statement.new.self ≡ arrived c.args.self.now c.args.wall c.args.envelope.now = same ∙ c.arrive.ensures.arrived in
-    let other = still_other c.args.self.now c.args.wall c.args.envelope.now c.on_statement.new.self c.args.m.now.tag at c.requires.other in
-    came c.args.self.now c.args.wall c.args.envelope.now c.on_statement.new.self c.tell_answer.new.self c.tell_answer.result at
-    (statement_told c.on_statement.new.self c.args.envelope.now c.args.m.now c.tell_answer.new.self c.tell_answer.result c.requires.msg
+    let at : c.on_statement.new.self ≡ arrived c.args.self.now c.args.wall c.args.envelope.now =
+    same ∙ c.arrive.ensures.arrived in
+    let other = still_other c.args.self.now c.args.wall c.args.envelope.now c.on_statement.new.self
+    c.args.m.now.tag at c.requires.other in
+    came c.args.self.now c.args.wall c.args.envelope.now c.on_statement.new.self
+    c.tell_answer.new.self c.tell_answer.result at
+    (statement_told c.on_statement.new.self c.args.envelope.now c.args.m.now c.tell_answer.new.self
+    c.tell_answer.result c.requires.msg
     (rw same c.in-Err-Memory.ensures.once)
     (rw same c.in-Err-Memory.ensures.memory) other c.tell_answer.ensures)

@@ -7,6 +7,8 @@ use Rattle.shard_image.proofs.image.Image.start.Goals as goal
 
 pub start-requires-clause-new : goal.start-requires-clause-new
 start-requires-clause-new c =
-    let coord : c.self.inside.coord ≡ c.args.self.now.coord = ap (λ (i : Image). i.coord) c.self.view_is in
+    let coord : c.self.inside.coord ≡ c.args.self.now.coord =
+    ap (λ (i : Image). i.coord) c.self.view_is in
     ap (λ (coords : Coordinations). coordinated_of coords c.args.tag.now) coord
-    ∙ new_coordination c.args.self.now c.args.tag.now c.args.lsid.now c.args.number c.args.parts.now c.requires.follows
+    ∙ new_coordination c.args.self.now c.args.tag.now c.args.lsid.now c.args.number c.args.parts.now
+    c.requires.follows

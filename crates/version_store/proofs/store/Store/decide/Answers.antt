@@ -7,5 +7,6 @@ use Rattle.version_store.proofs.store.Store.decide.Goals as goal
 pub returns-in-Some : goal.returns-in-Some
 returns-in-Some c =
     c.restamp.ensures.changed
-    ∙ stamped_under c.args.tag (At c.in-Some.at) c.args.keys.now c.args.self.now c.restamp.ensures.kept.rises c.requires
+    ∙ stamped_under c.args.tag (At c.in-Some.at) c.args.keys.now c.args.self.now
+    c.restamp.ensures.kept.rises c.requires
     ∙ sym (ap (λ (at : Option ℕ). decided c.args.tag at c.args.self.now) c.in-Some.is)

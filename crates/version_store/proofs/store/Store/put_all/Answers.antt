@@ -17,12 +17,18 @@ loop-write-preserved c =
     let tag = c.args.tag in
     let next : suc at ≡ at + 1 = omega arith in
     let left : drop at writes ≡ item ∷ drop (at + 1) writes =
-    drop-cons writes at item (omega (arith, c.loop-write-test.true)) ∙ ap (λ (w : Write). w ∷ drop (suc at) writes) (sym c.write-item.is) ∙ ap (λ (n : ℕ). item ∷ drop n writes) next in
-    laying_on tag c.loop-write.self c.lay_copy.new.self c.loop-write.laid.items c.lay_copy.new.laid.items (laid_by tag c.loop-write.self item) item (drop (at + 1) writes) begun writes c.in-Ok.ensures.ok c.in-Ok.ensures.laid refl
-    (subst (λ (ws : List Write). IsLaying tag c.loop-write.self c.loop-write.laid.items ws begun writes) left c.loop-write.invariant)
+    drop-cons writes at item (omega (arith, c.loop-write-test.true)) ∙ ap (λ (w : Write). w
+    ∷ drop (suc at) writes) (sym c.write-item.is) ∙ ap (λ (n : ℕ). item ∷ drop n writes) next in
+    laying_on tag c.loop-write.self c.lay_copy.new.self c.loop-write.laid.items
+    c.lay_copy.new.laid.items (laid_by tag c.loop-write.self item) item (drop (at + 1) writes)
+    begun writes c.in-Ok.ensures.ok c.in-Ok.ensures.laid refl
+    (subst (λ (ws : List Write). IsLaying tag c.loop-write.self c.loop-write.laid.items ws begun
+    writes) left c.loop-write.invariant)
 
 pub loop-write-init : goal.loop-write-init
 loop-write-init c =
-    let kept = subst IsKept c.self.view_is (kept_flattened c.self.inside.collections.entries c.self.invariant) in
-    subst (λ (laid : List Laid). IsLaying c.args.tag c.args.self.now laid c.args.writes.now c.args.self.now c.args.writes.now) (sym c.new-laid.ensures.items)
+    let kept = subst IsKept c.self.view_is (kept_flattened c.self.inside.collections.entries
+    c.self.invariant) in
+    subst (λ (laid : List Laid). IsLaying c.args.tag c.args.self.now laid c.args.writes.now
+    c.args.self.now c.args.writes.now) (sym c.new-laid.ensures.items)
     (laying_begun c.args.tag c.args.self.now c.args.writes.now c.requires.free c.requires.kept kept)

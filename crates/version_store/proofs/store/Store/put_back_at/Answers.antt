@@ -15,7 +15,8 @@ use Rattle.version_store.proofs.Histories.{each_set, each_found}
 use Rattle.version_store.proofs.Ids.{ids_changed, ids_put_back}
 use Rattle.version_store.proofs.Keyed.{rises_of}
 use Rattle.version_store.proofs.store.Store.put_back_at.Goals as goal
-use Rattle.version_store.proofs.store.Store.put_back_at.Goals.{in-Some, in_default+in-None-1, in_default+in-Some-1}
+use Rattle.version_store.proofs.store.Store.put_back_at.Goals.{in-Some, in_default+in-None-1}
+use Rattle.version_store.proofs.store.Store.put_back_at.Goals.{in_default+in-Some-1}
 
 pub returns : goal.returns
 returns c =
@@ -31,14 +32,17 @@ returns c =
           let new = w.put_back.new.self in
           let is = w.put_back.ensures ∙ ap (λ (i : Id). changed_at id_cmp f i old) w.id.ensures in
           ap the_view w.self-inside-is ∙ ap flattened (c.get_mut.follows.holds new).0
-          ∙ changed_there f ns id old new groups store c.self.view_is c.self.invariant.rises (sym w.in-Some.ensures.value) is
+          ∙ changed_there f ns id old new groups store c.self.view_is c.self.invariant.rises
+          (sym w.in-Some.ensures.value) is
           ∙ named
       | in_default+in-None-1 w ↦
-          ap the_view w.self-inside-is ∙ ap (λ (m : BTreeMap (List ℕ) Documents). flattened m.entries) c.get_mut.follows.holds-at-none
+          ap the_view w.self-inside-is ∙ ap (λ (m : BTreeMap (List ℕ) Documents).
+          flattened m.entries) c.get_mut.follows.holds-at-none
           ∙ changed_nowhere f ns id groups store c.self.view_is (sym w.in_default.ensures.value)
           ∙ named
       | in_default+in-Some-1 w ↦
-          ap the_view w.self-inside-is ∙ ap (λ (m : BTreeMap (List ℕ) Documents). flattened m.entries) c.get_mut.follows.holds-at-none
+          ap the_view w.self-inside-is ∙ ap (λ (m : BTreeMap (List ℕ) Documents).
+          flattened m.entries) c.get_mut.follows.holds-at-none
           ∙ changed_nowhere f ns id groups store c.self.view_is (sym w.in_default.ensures.value)
           ∙ named
     ]
@@ -51,20 +55,31 @@ invariant_of-self c =
     let f = put_back c.args.tag.now c.args.version in
     let id = c.args.key.now.1 in
     let store = c.args.self.now in
-    let ids = ids_changed f (ns, id) store (λ V has. ids_put_back c.args.tag.now c.args.version id V c.requires has) (subst HaveIds c.self.view_is c.self.invariant.ids) in
+    let ids = ids_changed f (ns, id) store (λ V has. ids_put_back c.args.tag.now c.args.version id V
+    c.requires has) (subst HaveIds c.self.view_is c.self.invariant.ids) in
     elim c.match-get_mut.branch [
       | in-Some w ↦
           let new = w.put_back.new.self in
           let old = w.in-Some.collection.now in
-          let is : IsCollection new = subst IsCollection (sym w.put_back.ensures) (collection_put_back c.args.tag.now c.args.version w.id.result.now old (each_found ns_cmp IsCollection ns old groups (sym w.in-Some.ensures.value) all)) in
-          let left = changed_there f ns id old new groups store c.self.view_is c.self.invariant.rises (sym w.in-Some.ensures.value) (w.put_back.ensures ∙ ap (λ (i : Id). changed_at id_cmp f i old) w.id.ensures) in
+          let is : IsCollection new = subst IsCollection (sym w.put_back.ensures)
+          (collection_put_back c.args.tag.now c.args.version w.id.result.now old
+          (each_found ns_cmp IsCollection ns old groups (sym w.in-Some.ensures.value) all)) in
+          let left = changed_there f ns id old new groups store c.self.view_is
+          c.self.invariant.rises (sym w.in-Some.ensures.value) (w.put_back.ensures
+          ∙ ap (λ (i : Id). changed_at id_cmp f i old) w.id.ensures) in
           let held : AreCollections (c.get_mut.follows.lender new).entries =
           record {
-            rises = rises_of ns_cmp (c.get_mut.follows.lender new).entries (c.get_mut.follows.holds new).4;
-            collections = subst (Each IsCollection) (sym (c.get_mut.follows.holds new).0) (each_set ns_cmp IsCollection ns new groups is all);
+            rises = rises_of ns_cmp (c.get_mut.follows.lender new).entries
+                (c.get_mut.follows.holds new).4;
+            collections = subst (Each IsCollection) (sym (c.get_mut.follows.holds new).0)
+                (each_set ns_cmp IsCollection ns new groups is all);
             ids = subst HaveIds (sym (ap flattened (c.get_mut.follows.holds new).0 ∙ left)) ids;
           } in
           subst the_invariant (sym w.self-inside-is) held
-      | in_default+in-None-1 w ↦ subst the_invariant (sym w.self-inside-is) (subst (λ (m : BTreeMap (List ℕ) Documents). AreCollections m.entries) (sym c.get_mut.follows.holds-at-none) c.self.invariant)
-      | in_default+in-Some-1 w ↦ subst the_invariant (sym w.self-inside-is) (subst (λ (m : BTreeMap (List ℕ) Documents). AreCollections m.entries) (sym c.get_mut.follows.holds-at-none) c.self.invariant)
+      | in_default+in-None-1 w ↦ subst the_invariant (sym w.self-inside-is)
+          (subst (λ (m : BTreeMap (List ℕ) Documents). AreCollections m.entries)
+          (sym c.get_mut.follows.holds-at-none) c.self.invariant)
+      | in_default+in-Some-1 w ↦ subst the_invariant (sym w.self-inside-is)
+          (subst (λ (m : BTreeMap (List ℕ) Documents). AreCollections m.entries)
+          (sym c.get_mut.follows.holds-at-none) c.self.invariant)
     ]
