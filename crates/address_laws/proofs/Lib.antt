@@ -1,6 +1,6 @@
-mod Lists
-mod Maps
-mod Sending
-mod Records
-mod Ruling
+pub mod Lists
+pub mod Maps
+pub mod Sending
+pub mod Records
+pub mod Ruling
 pub mod Standing

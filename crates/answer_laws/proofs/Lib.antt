@@ -1,10 +1,10 @@
 pub mod Lists
-mod Answered
+pub mod Answered
 pub mod Fits
-mod Deeds
+pub mod Deeds
 pub mod Going
 pub mod Beginning
-mod Shards
+pub mod Shards
 pub mod Sending
-mod Running
-mod One
+pub mod Running
+pub mod One

@@ -1,3 +1,14 @@
+//! Bytes are read as a document. `{a: 1}` is these twelve bytes:
+//!
+//! ```text
+//! 0c 00 00 00             the count of all the bytes, an int32
+//! 10  61 00  01 00 00 00  the type int32, the name "a", the value
+//! 00                      the end
+//! ```
+//!
+//! With `0d` as its first byte the count isn't that of the bytes, and with another last byte than
+//! 00 the document doesn't end: both are `Length { at: 0 }`. With `13`, a decimal, in place of the
+//! `10` the type is one that no document here holds: `Kind { at: 4, byte: 0x13 }`.
 ghost use Rattle.std.specs.Prelude.{◌≡◌, ◌<◌, ◌≤◌, ◌+◌, ◌==◌, Ok, true, false, length, option_map, position, IfOk, IfSome, MatchOption};
 ghost use Rattle.std.specs.Int.{w32, w64};
 ghost use Rattle.std.specs.Str.{is_utf8};

@@ -1,6 +1,6 @@
 -- What the replies of a run tell of transactions.
-use Rattle.std.specs.Prelude.{◌≡◌, ℕ, ℤ, Bool, true, false, List, filter_map, Option, Some, None}
-use Rattle.std.specs.Prelude.{All, Contains, Ok, Err}
+use Rattle.std.specs.Prelude.{◌≡◌, ◌⊎◌, ℕ, ℤ, Bool, true, false, List, filter_map, Option}
+use Rattle.std.specs.Prelude.{Some, None, All, Contains, Ok, Err, IsOk}
 use Rattle.txn_types.specs.declared.cause.Cause.{Cause}
 use Rattle.txn_types.specs.declared.cause.Cause.TheVariants as cause
 use Rattle.txn_types.specs.declared.decision.Token.{Token}
@@ -95,9 +95,23 @@ IsTold answered h (reply.Caused shard number (cause.Statement err)) =
     HasAnswered answered h (reply.Caused shard number (cause.Statement err))
 IsTold answered h other = Unit {0}
 
+-- it was answered as done
+abbrev pub WasDone : List Answered → Hand → Type 0
+WasDone answered h =
+    (a : Answered) × Contains answered a × IsOf h a × IsOk a.outcome
+
+-- Of a command by itself, whose commit its router asks for: where that was done, its commit may be
+-- told why its shard refuses the statement's repeat. (A shard that started again has lost what the
+-- statement did; a repeat of it is then refused by its meaning, and so is the commit.)
+abbrev pub IsToldAlone : List Answered → Hand → Reply → Type 0
+IsToldAlone answered h (reply.Caused shard number (cause.Statement err)) =
+    HasAnswered answered h (reply.Caused shard number (cause.Statement err)) ⊎ WasDone answered h
+IsToldAlone answered h other = IsTold answered h other
+
 -- of a statement; a commit may be told a refusal that a shard kept
 abbrev pub IsToldTo : List Answered → Hand → Request → Reply → Type 0
-IsToldTo answered h (request.Statement op txn at after more time) r = IsTold answered h r
+IsToldTo answered h (request.Statement op None at after more time) r = IsToldAlone answered h r
+IsToldTo answered h (request.Statement op (Some txn) at after more time) r = IsTold answered h r
 IsToldTo answered h other r = Unit {0}
 
 abbrev pub ToldRight : List Answered → List Replied → Type 0

@@ -1,6 +1,6 @@
 pub mod Lists
-mod Records
+pub mod Records
 pub mod Sessions
-mod Ruling
-mod Sending
+pub mod Ruling
+pub mod Sending
 pub mod Standing

@@ -1,3 +1,3 @@
-mod Opens
-mod Steps
+pub mod Opens
+pub mod Steps
 pub mod Standing

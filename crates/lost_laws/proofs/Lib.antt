@@ -1,3 +1,3 @@
-mod Causes
-mod Steps
+pub mod Causes
+pub mod Steps
 pub mod Standing

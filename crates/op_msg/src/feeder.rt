@@ -1,3 +1,11 @@
+//! Messages are cut out of a stream, in whatever pieces it comes. Of a message of 38 bytes and one
+//! of 52 that come as 10, 70 and 10 bytes:
+//!
+//! ```text
+//! feed(10)  next: none         10 bytes are held
+//! feed(70)  next: 38 bytes     then none; 42 bytes are held
+//! feed(10)  next: 52 bytes     nothing is held
+//! ```
 ghost use Rattle.std.specs.Prelude.{◌≡◌, ◌≢◌, ◌≤◌, ◌<◌, ◌⊎◌, ◌∷◌, ◌++◌, ℕ, List, [], Ok, Err, Some, None, length, OnOk, OnErr, IfOk, IfErr, IfSome, IfNone, IsErrOf, option_map};
 ghost use Rattle.std.specs.List.{All, concat};
 ghost use Rattle.op_msg.specs.Errors.{Gives};

@@ -1,3 +1,14 @@
+//! A statement is evaluated over rows that are lent to it: items one after the other, each over what
+//! those before it left. Of `delete {n: 1}` (all) and then of `insert {_id: 1, n: 5}` over
+//!
+//! ```text
+//! lent             1: {n: 1}    2: {n: 2}    3: {n: 1}
+//! delete           1: nothing   2: lent      3: nothing    n = 2, writes: delete 1, delete 3
+//! ```
+//!
+//! and, in a statement of its own over the rows 2 alone, with the deletes as its transaction's
+//! own writes, the insert leaves `1: {n: 5}` beside what is lent; n = 1, and one write, put 1. No
+//! document is copied that isn't changed.
 ghost use Rattle.std.specs.Prelude.{◌≡◌, [], Some, None, IfOk};
 ghost use Rattle.std.specs.Str.{bytes_eq};
 ghost use Rattle.bson_core.specs.Spelling.{spelling};

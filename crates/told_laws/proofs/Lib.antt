@@ -1,12 +1,12 @@
-mod Lists
-mod Quiet
-mod Moves
-mod Standing
-mod Booking
-mod Opening
-mod Taking
-mod Answering
-mod Running
-mod Placed
-mod OneShard
-mod Requests
+pub mod Lists
+pub mod Quiet
+pub mod Moves
+pub mod Standing
+pub mod Booking
+pub mod Opening
+pub mod Taking
+pub mod Answering
+pub mod Running
+pub mod Placed
+pub mod OneShard
+pub mod Requests

@@ -1,5 +1,9 @@
 -- What the items of a statement do to rows, one after the other, each over the rows that those
 -- before it left.
+-- Two documents {_id: 1, n: 1} and {_id: 2, n: 2}, and an update of two items: the first adds 1 to
+-- n where n is 1, the second sets n to 9 wherever it is 2. The first meets {_id: 1} and leaves
+-- {_id: 1, n: 2}; so the second meets both, and leaves n at 9 in both. Three rows were met, and
+-- three were changed. Had the first item met nothing, the second would have met {_id: 2} alone.
 use Rattle.std.specs.Prelude.{◌≡◌, ℕ, Bool, not, List, [], ◌∷◌, ◌++◌, filter, take, Option, Some}
 use Rattle.std.specs.Prelude.{None, Result, Ok, Err, if◌then◌else◌}
 use Rattle.bson_core.specs.Fields.{Document}

@@ -1,3 +1,13 @@
+//! Cluster times, and the clock that tells them. A time is written (seconds, increment) here. A
+//! clock that stands at (100, 5), below a ceiling of (110, 0), tells
+//!
+//! ```text
+//! tick at the wall's second 100    (100, 6)
+//!                      103         (103, 1)
+//!                       99         (103, 2): it never goes back
+//! advance to (105, 7)              and the next tick at 99 is (105, 8)
+//! tick at 111                      NeedCeiling { (121, 1) }, and the clock stays
+//! ```
 ghost use Rattle.std.specs.Prelude.{◌≡◌, ◌≢◌, ◌≤◌, ◌<◌, ◌+◌, ◌-◌, ◌^◌, ◌↔◌, ℕ, max, IfOk, OnOk, OnErr};
 ghost use Rattle.txn_types.specs.Clock.{next_time, wanted_ceiling};
 

@@ -1,28 +1,28 @@
-mod Lists
-mod Numbers
-mod Naming
-mod Effects
-mod Steps
-mod Ceilings
+pub mod Lists
+pub mod Numbers
+pub mod Naming
+pub mod Effects
+pub mod Steps
+pub mod Ceilings
 pub mod Clocks
-mod Records
-mod Tags
-mod PartTimes
-mod RuledTimes
-mod StepTimes
+pub mod Records
+pub mod Tags
+pub mod PartTimes
+pub mod RuledTimes
+pub mod StepTimes
 pub mod ReadTimes
-mod Asking
-mod RouterSteps
-mod Booting
-mod Deeds
-mod Going
-mod Beginning
+pub mod Asking
+pub mod RouterSteps
+pub mod Booting
+pub mod Deeds
+pub mod Going
+pub mod Beginning
 pub mod Once
-mod PartRecords
-mod RuledRecords
-mod StepRecords
+pub mod PartRecords
+pub mod RuledRecords
+pub mod StepRecords
 pub mod NodeRecords
-mod BootSteps
+pub mod BootSteps
 pub mod Boots
 pub mod Above
 pub mod Joint
