@@ -24,7 +24,7 @@ use stdio::{ReaderSource, WriterSink};
 const USAGE: &str = "usage: mtx play < SCHEDULE";
 
 /// How many bytes the disk in memory of a shard holds, and of a router.
-const SHARD_BYTES: usize = 2_097_152;
+const SHARD_BYTES: usize = 16_777_216;
 
 const ROUTER_BYTES: usize = 65_536;
 

@@ -1,5 +1,5 @@
 -- A disk in memory, as contracts see it.
-use Rattle.std.specs.Prelude.{◌≡◌, ◌⊎◌, ◌≤◌, ℕ, List, length, take}
+use Rattle.std.specs.Prelude.{◌≡◌, ◌⊎◌, ◌≤◌, ℕ, List, take}
 use Rattle.std.proofs.Common.{inl, inr, arith}
 use Rattle.outside_core.specs.declared.memory_disk.MemDisk.{MemDisk}
 use Rattle.outside_core.specs.declared.memory_disk.Past.{Past, Start, After'}
@@ -12,7 +12,7 @@ held d = take d.len d.room.items
 
 -- how many bytes it has room for
 abbrev pub room_of : MemDisk → ℕ
-room_of d = length d.room.items
+room_of d = d.capacity
 
 -- how often a call has failed
 abbrev pub faults_of : MemDisk → ℕ

@@ -1,4 +1,4 @@
-ghost use Rattle.std.specs.Prelude.{◌≡◌, ◌↔◌, ◌<◌, ◌+◌, ◌^◌, IsErr, IsOk, Ok, min, ◌-◌, ◌≤◌, ◌⊎◌, ◌++◌, [], true, IfOk, OnOk, OnErr, take, drop, length, vec_len};
+ghost use Rattle.std.specs.Prelude.{◌≡◌, ◌↔◌, ◌<◌, ◌+◌, ◌^◌, IsErr, IsOk, Ok, min, ◌-◌, ◌≤◌, ◌⊎◌, ◌++◌, [], true, IfOk, OnOk, OnErr, take, drop, length, vec_len, vec_capacity};
 ghost use Rattle.std.proofs.Common.{inl, refl};
 ghost use Rattle.outcomes.specs.Causes.{FailsOnly, Rose};
 ghost use Rattle.outside_core.specs.Crash.{Holds, Torn, CutShort, Same};
@@ -17,30 +17,18 @@ pub enum Past {
     After(Snapshot<Vec<u8>>, usize, Snapshot<Past>),
 }
 
-/// A block of zeros, with which a new disk's room is filled.
-const BLOCK: [u8; 4096] = [0; 4096];
-
-/// So many zeros, block by block.
-fn zeros(alloc: Global, count: usize) -> Result<Vec<u8>, AllocError>
-    ensures { IfOk result (λ room. vec_len room ≡ count) }
-{
-    let mut room = Vec::with_capacity(alloc, count)?;
-    while room.len() < count {
-        let part = BLOCK.len().min(count - room.len());
-        room.extend_from_slice(&BLOCK[..part])?;
-    }
-    Ok(room)
-}
-
-/// A disk in memory, which takes all its room at once. A write past its room is a failed call. Each
-/// call is done at once, so a crash leaves what is there.
+/// A disk in memory. It reserves all its room when it is made, so no write takes memory, but touches
+/// no more of it than was written. A write past its room is a failed call. Each call is done at
+/// once, so a crash leaves what is there.
 #[derive(Drop)]
 pub struct MemDisk {
     room: Vec<u8>,
     len: usize,
+    capacity: usize,
     past: Past,
     faults: u64,
-    ghost within: { len ≤ vec_len room },
+    ghost within: { (len ≤ vec_len room) × (vec_len room ≤ capacity) },
+    ghost reserved: { capacity ≤ vec_capacity room },
 }
 
 impl MemDisk {
@@ -52,10 +40,11 @@ impl MemDisk {
         ensures capacity { IfOk result (λ d. room_of d ≡ capacity) }
         ensures faults { IfOk result (λ d. faults_of d ≡ 0) }
     {
-        let room = zeros(alloc, capacity)?;
+        let room = Vec::with_capacity(alloc, capacity)?;
         Ok(MemDisk {
             room,
             len: 0,
+            capacity,
             past: Past::Start,
             faults: 0,
         })
@@ -70,10 +59,10 @@ impl MemDisk {
     {
         let mut room = Vec::with_capacity(alloc, capacity)?;
         room.extend_from_slice(bytes)?;
-        room.resize(capacity, 0)?;
         Ok(MemDisk {
             room,
             len: bytes.len(),
+            capacity,
             past: Past::Start,
             faults: 0,
         })
@@ -86,10 +75,25 @@ impl MemDisk {
         &self.room[..self.len]
     }
 
+    // Makes the bytes up to there ones that were written, within the room.
+    fn reach(&mut self, end: usize)
+        requires { end ≤ room_of self.old }
+        ensures held { held self.new ≡ held self.old }
+        ensures reached { end ≤ vec_len self.new.room }
+        ensures len { self.new.len ≡ self.old.len }
+        ensures past { self.new.past ≡ self.old.past }
+        ensures room { room_of self.new ≡ room_of self.old }
+        ensures faults { self.new.faults ≡ self.old.faults }
+    {
+        if self.room.len() < end {
+            self.room.resize(end, 0).unwrap();
+        }
+    }
+
     fn fail(&mut self) -> DiskErr
         ensures held { held self.new ≡ held self.old }
         ensures past { self.new.past ≡ self.old.past }
-        ensures room { self.new.room.items ≡ self.old.room.items }
+        ensures room { room_of self.new ≡ room_of self.old }
         ensures faults { Rose self.old.faults self.new.faults }
     {
         self.faults = self.faults.saturating_add(1);
@@ -159,10 +163,11 @@ impl Disk for MemDisk {
         ensures room { room_of self.new ≡ room_of self.old }
     {
         let at = at as usize;
-        if bytes.len() > self.room.len() - at {
+        if bytes.len() > self.capacity - at {
             return Err(self.fail());
         }
         remember(&self.room, self.len, &mut self.past);
+        self.reach(at + bytes.len());
         self.room[at..at + bytes.len()].copy_from_slice(bytes);
         self.len = self.len.max(at + bytes.len());
         Ok(())
