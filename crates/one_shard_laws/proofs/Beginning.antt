@@ -31,7 +31,7 @@ below_not a b c h k same = grind (arith, h, k, same)
 
 module _ (P : Named → Type 0) (once : IsOnce P) (p : Part) (m : Statement) (named :
     P (record { tag = m.tag; lsid = m.lsid; number = m.number })) (may : MayBegin p m) where
-  not_held : (tag : Tag) → IsHeld P p.sessions tag → same_tag tag m.tag ≡ true → ⊥
+  pub not_held : (tag : Tag) → IsHeld P p.sessions tag → same_tag tag m.tag ≡ true → ⊥
   not_held tag h same =
       let one = once h.0 (record { tag = m.tag; lsid = m.lsid; number = m.number }) h.1 named (h.2
       ∙ tag_same tag m.tag same) in
@@ -59,7 +59,7 @@ module _ (P : Named → Type 0) (once : IsOnce P) (p : Part) (m : Statement) (na
   other_case tag true is h = absurd (not_held tag h is)
   other_case tag false is h = is
 
-  none_committed : (entries : List Entry) → Each (λ (e : Entry). IsHeld P p.sessions e.tag) entries
+  pub none_committed : (entries : List Entry) → Each (λ (e : Entry). IsHeld P p.sessions e.tag) entries
       → HasNone m.tag entries
   none_committed [] h = tt
   none_committed (e ∷ entries) h =
