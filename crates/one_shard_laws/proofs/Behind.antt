@@ -16,7 +16,6 @@ use Rattle.txn_types.specs.declared.message.Commit.{Commit}
 use Rattle.txn_types.specs.declared.message.Envelope.{Envelope}
 use Rattle.txn_types.specs.declared.message.Msg.{Msg}
 use Rattle.txn_types.specs.declared.message.Msg.TheVariants as msg
-use Rattle.txn_types.specs.declared.message.Statement.{Statement}
 use Rattle.txn_types.specs.declared.names.Tag.{Tag}
 use Rattle.txn_types.specs.declared.node.Lsid.{Lsid}
 use Rattle.txn_types.specs.declared.operation.OpReply.{OpReply}

@@ -61,7 +61,7 @@ least_then a b c h k = grind (arith, h, k)
 same_time : (n : ℕ) → n ≤ n
 same_time n = omega arith
 
-same_boot : (a b : ℕ) → nat_eq a b ≡ true → a ≡ b
+pub same_boot : (a b : ℕ) → nat_eq a b ≡ true → a ≡ b
 same_boot a b h = grind (arith, h)
 
 pub below_above : (a b c : ℤ) → a <ℤ b → b ≤ℤ c → a ≤ℤ c
