@@ -18,20 +18,18 @@ use Rattle.txn_types.specs.Letters.{Named}
 use Rattle.serving_laws.specs.Coming.{MayBegin, IsNew}
 use Rattle.one_shard_laws.specs.Sessions.{IsHeld, IsOnce}
 use Rattle.one_shard_laws.specs.Lasting.{Runs}
+use Rattle.one_shard_laws.proofs.Sessions.{same_boot}
 
 both_true : (a b : Bool) → (a && b) ≡ true → (a ≡ true) × (b ≡ true)
 both_true true b h = (refl, h)
 both_true false b h = cc
-
-same_life : (a b : ℕ) → nat_eq a b ≡ true → a ≡ b
-same_life a b h = grind (arith, h)
 
 below_not : (a b c : ℤ) → a ≤ℤ b → b <ℤ c → a ≡ c → ⊥
 below_not a b c h k same = grind (arith, h, k, same)
 
 module _ (P : Named → Type 0) (once : IsOnce P) (p : Part) (m : Statement) (named :
     P (record { tag = m.tag; lsid = m.lsid; number = m.number })) (may : MayBegin p m) where
-  not_held : (tag : Tag) → IsHeld P p.sessions tag → same_tag tag m.tag ≡ true → ⊥
+  pub not_held : (tag : Tag) → IsHeld P p.sessions tag → same_tag tag m.tag ≡ true → ⊥
   not_held tag h same =
       let one = once h.0 (record { tag = m.tag; lsid = m.lsid; number = m.number }) h.1 named (h.2
       ∙ tag_same tag m.tag same) in
@@ -44,7 +42,7 @@ module _ (P : Named → Type 0) (once : IsOnce P) (p : Part) (m : Statement) (na
       → IsHeld P p.sessions x.tag) → ◌≡◌ {A = List Write} (if b then writes_of x.meaning else []) []
   none_case x true is h =
       let both = both_true (same_tag x.tag m.tag) (nat_eq x.life p.boot) is in
-      absurd (not_held x.tag (h (same_life x.life p.boot both.1)) both.0)
+      absurd (not_held x.tag (h (same_boot x.life p.boot both.1)) both.0)
   none_case x false is h = refl
 
   none_written : (served : List Served) → Each (λ (x : Served). x.life ≡ p.boot
@@ -59,7 +57,7 @@ module _ (P : Named → Type 0) (once : IsOnce P) (p : Part) (m : Statement) (na
   other_case tag true is h = absurd (not_held tag h is)
   other_case tag false is h = is
 
-  none_committed : (entries : List Entry) → Each (λ (e : Entry). IsHeld P p.sessions e.tag) entries
+  pub none_committed : (entries : List Entry) → Each (λ (e : Entry). IsHeld P p.sessions e.tag) entries
       → HasNone m.tag entries
   none_committed [] h = tt
   none_committed (e ∷ entries) h =

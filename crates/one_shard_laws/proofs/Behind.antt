@@ -12,16 +12,16 @@ use Rattle.txn_types.specs.declared.event.Happening.{Happening}
 use Rattle.txn_types.specs.declared.event.Happening.TheVariants as what
 use Rattle.txn_types.specs.declared.event.NodeEvent.{NodeEvent}
 use Rattle.txn_types.specs.declared.message.Answer.{Answer}
+use Rattle.txn_types.specs.declared.message.Commit.{Commit}
 use Rattle.txn_types.specs.declared.message.Envelope.{Envelope}
 use Rattle.txn_types.specs.declared.message.Msg.{Msg}
 use Rattle.txn_types.specs.declared.message.Msg.TheVariants as msg
-use Rattle.txn_types.specs.declared.message.Statement.{Statement}
 use Rattle.txn_types.specs.declared.names.Tag.{Tag}
 use Rattle.txn_types.specs.declared.node.Lsid.{Lsid}
 use Rattle.txn_types.specs.declared.operation.OpReply.{OpReply}
 use Rattle.txn_types.specs.declared.write.Write.{Write}
 use Rattle.txn_semantics.specs.declared.commits.Entry.{Entry}
-use Rattle.txn_semantics.specs.Meaning.{Meaning}
+use Rattle.txn_semantics.specs.Writes.{write_set}
 use Rattle.session_table.specs.Sessions.{Table, session_of}
 use Rattle.session_table.specs.declared.session.Session.{Session}
 use Rattle.journal_rec.specs.declared.record.Rec.{Rec}
@@ -29,7 +29,7 @@ use Rattle.journal_rec.specs.declared.record.Rec.TheVariants as rec
 use Rattle.participant.specs.Part.{Part, session}
 use Rattle.shard_image.specs.Image.{Image, image_of}
 use Rattle.part_laws.specs.Each.{Each}
-use Rattle.part_laws.specs.Sound.{Opens, Served}
+use Rattle.part_laws.specs.Sound.{Opens, Served, written}
 use Rattle.part_laws.specs.Parts.{IsServing, Holds}
 use Rattle.part_laws.specs.Kept.{CommitsBy}
 use Rattle.part_laws.proofs.Elapsed.{clock_holds}
@@ -44,18 +44,16 @@ use Rattle.txn_types.specs.Letters.{Named, named_in, given_out}
 use Rattle.shard_core.specs.Effect.{NamesBy}
 use Rattle.serving_laws.specs.Coming.{MsgComes, EventComes}
 use Rattle.serving_laws.specs.Left.{CoordinatesOnly, NoneButCoord, LeftBy, Left, StepServes}
-use Rattle.serving_laws.specs.Telling.{Tells, AnswersTo, RefusedThere, ToldThere}
-use Rattle.serving_laws.specs.Telling.{IsToldBy, GrowsBy, Grows}
+use Rattle.serving_laws.specs.Telling.{RefusedThere, ToldThere, IsToldBy}
 use Rattle.serving_laws.proofs.Stepping.{step_serves}
-use Rattle.one_shard_laws.specs.Sessions.{AtLeast, GoesOn, IsHeld, IsOnce}
-use Rattle.one_shard_laws.specs.Alone.{IsAlone, EventAlone, IsServedBy, AnswerAtLeast}
-use Rattle.one_shard_laws.specs.Alone.{ServedAtLeast, RecHeld, HasNumber, EventAtLeast}
+use Rattle.one_shard_laws.specs.Sessions.{GoesOn, IsHeld, IsOnce}
+use Rattle.one_shard_laws.specs.Alone.{IsAlone, EventAlone, RecHeld, HasNumber, EventAsksFor}
 use Rattle.one_shard_laws.specs.Alone.{StepAlone}
-use Rattle.one_shard_laws.specs.Lasting.{WasNamed, WasAsked, commits_by, RecordsAlone, Lasts, Runs}
-use Rattle.one_shard_laws.proofs.Sessions.{expire_goes, below_above, one_some}
+use Rattle.one_shard_laws.specs.Lasting.{WasNamed, AllAsked, InOrder, WasCommitted, commits_by}
+use Rattle.one_shard_laws.specs.Lasting.{RecordsAlone, Lasts, Runs}
+use Rattle.one_shard_laws.proofs.Sessions.{below_above, one_some}
 use Rattle.one_shard_laws.proofs.Stepping.{step_alone}
-use Rattle.participant.specs.Expiry.{expire}
-use Rattle.part_laws.specs.Turned.{Begins, Continues}
+use Rattle.one_shard_laws.proofs.Growing.{WasSent, committed_still, IsMore, Grew, grew}
 use Rattle.one_shard_laws.proofs.Listing.{each_more, each_last, ceiling_more, commit_more}
 use Rattle.one_shard_laws.proofs.Recording.{held_on, ceiling_alone, commit_alone}
 use Rattle.one_shard_laws.proofs.Beginning.{is_new}
@@ -64,12 +62,12 @@ use Rattle.one_shard_laws.proofs.Beginning.{is_new}
 
 refused_more : (x : Served) (served : List Served) (a : Answer) (why : Cause)
     → RefusedThere served a why → RefusedThere (x ∷ served) a why
-refused_more x served a (cause.Statement err) h = (h.0, inr h.1, h.2, h.3, h.4)
+refused_more x served a (cause.Statement err) h = (h.0, inr h.1, h.2, h.3, h.4, h.5)
 refused_more x served a other h = tt
 
 there_more : (x : Served) (served : List Served) (a : Answer) (o : Result (OpReply × Bool) Cause)
     → ToldThere served a o → ToldThere (x ∷ served) a o
-there_more x served a (Ok done) h = (h.0, inr h.1, h.2, h.3, h.4, h.5)
+there_more x served a (Ok done) h = (h.0, inr h.1, h.2, h.3, h.4, h.5, h.6)
 there_more x served a (Err why) h = refused_more x served a why h
 
 told_more : (x : Served) (served : List Served) (m : Msg) → IsToldBy served m
@@ -93,11 +91,7 @@ pub both_appended : (recs : List Rec) (bound : ℕ) (r : Rec) → recs ++ joined
     (Some bound) ++ record_append (Some r)) ≡ (recs ++ rec.Ceiling bound ∷ []) ++ r ∷ []
 both_appended recs bound r = sym (append_assoc recs (rec.Ceiling bound ∷ []) (r ∷ []))
 
--- What comes was sent, and what a message names that was sent was named.
-
-abbrev pub WasSent : List Envelope → Happening → Type 0
-WasSent sent (what.Deliver e) = Contains sent e
-WasSent sent other = Unit {0}
+-- What a message names that was sent was named.
 
 abbrev with_name : Option Named → List Named → List Named
 with_name None names = names
@@ -147,6 +141,7 @@ pub record Committed (q : Part) (mid : ℕ) (entries : List Entry) (told : List 
   pub writes : List Write
   pub is : r ≡ Some (rec.Commit tag lsid number read_at at writes)
   pub above : mid < at
+  pub wrote : writes ≡ write_set (written tag q.boot told)
   pub holds : Holds opens q at
       (entries ++ record { tag = tag; read_at = read_at; at = at; writes = writes } ∷ []) told
 
@@ -186,6 +181,7 @@ module _ (P : Named → Type 0) (before q : Part) (opens : Opens) (mid later : �
         writes = writes;
         is = refl;
         above = h.0;
+        wrote = h.2;
         holds = h.1 entries [] (sym (append-nil entries)) tt;
       })
   commits (Some (rec.Boot boot)) h = absurd h
@@ -219,73 +215,6 @@ module _ (P : Named → Type 0) (before q : Part) (opens : Opens) (mid later : �
   leaves (what.Gone conn) r alone h k = stays r h k
   leaves what.Resend r alone h k = stays r h k
   leaves what.Moment r alone h k = stays r h k
-
--- What is served: nothing more, or the statement that was delivered.
-
-served_by : (meaning : Meaning) (o : Result (OpReply × Bool) Cause) → Tells meaning o → IsServedBy o
-served_by meaning (Ok done) h = tt
-served_by meaning (Err (cause.Statement err)) h = tt
-served_by meaning (Err other) h = absurd h
-
-answer_least : (x : Served) (m : Statement) (q : Part) (a : Msg) → AnswersTo x a
-    → AnswerAtLeast q m a → AtLeast q.sessions m.lsid m.number
-answer_least x m q (msg.Answer a) h k = k (served_by x.meaning a.outcome h.outcome)
-answer_least x m q other h k = absurd h
-
-module _ (sent : List Envelope) (served told : List Served) (p q : Part)
-    (same : p.boot ≡ q.boot) where
-  abbrev P : Named → Type 0
-  P = WasNamed sent
-
-  abbrev Grew : Type 0
-  Grew = (told ≡ served) ⊎ ((x : Served) × (told ≡ x ∷ served) × WasAsked sent x × (x.life ≡ q.boot)
-      × IsHeld P q.sessions x.tag)
-
-  asked_boot : (m : Statement) (x : Served) → x.life ≡ q.boot → Begins p m ⊎ Continues p m
-      → (m.boot ≡ 0) ⊎ (m.boot ≡ x.life)
-  asked_boot m x life (inl h) = inl h.0
-  asked_boot m x life (inr h) = inr (h.4 ∙ same ∙ sym life)
-
-  grew_by : (e : Envelope) (m : Msg) (out : List Envelope) → e.msg ≡ m
-      → Contains sent e → IfSome (named_in m) P → GrowsBy p q m served told out
-      → All (λ (a : Envelope). ServedAtLeast q m a.msg) out → Grew
-  grew_by e (msg.Statement m) out is there named (inl h) all = inl h.0
-  grew_by e (msg.Statement m) out is there named (inr h) all =
-      let a : Envelope = h.6.0 in
-      let one : AnswerAtLeast q m a.msg = All-head (λ (a : Envelope). AnswerAtLeast q m a.msg) a []
-      (subst (All (λ (a : Envelope). AnswerAtLeast q m a.msg)) h.6.1 all) in
-      inr (
-        h.0,
-        h.1,
-        (e, m, there, is, h.2, asked_boot m h.0 h.3 h.4.1),
-        h.3,
-        (
-          record { tag = m.tag; lsid = m.lsid; number = m.number },
-          named,
-          sym h.2.0,
-          answer_least h.0 m q a.msg h.6.2 one,
-        ),
-      )
-  grew_by e (msg.Answer m) out is there named h all = inl h
-  grew_by e (msg.Commit m) out is there named h all = inl h
-  grew_by e (msg.Outcome m) out is there named h all = inl h
-  grew_by e (msg.Abort m) out is there named h all = inl h
-  grew_by e (msg.CommitTwo m) out is there named h all = inl h
-  grew_by e (msg.Prepare m) out is there named h all = inl h
-  grew_by e (msg.Vote m) out is there named h all = inl h
-  grew_by e (msg.Decide m) out is there named h all = inl h
-  grew_by e (msg.Acked m) out is there named h all = inl h
-  grew_by e (msg.Recover m) out is there named h all = inl h
-  grew_by e msg.Nudge out is there named h all = inl h
-
-  pub grew : (w : Happening) (out : List Envelope) → WasSent sent w → Grows p q w served told out
-      → All (λ (a : Envelope). EventAtLeast q w a.msg) out → Grew
-  grew (what.Deliver e) out there h all =
-      grew_by e e.msg out refl there (sent_named sent e there) h all
-  grew (what.Client conn frame) out there h all = inl h
-  grew (what.Gone conn) out there h all = inl h
-  grew what.Resend out there h all = inl h
-  grew what.Moment out there h all = inl h
 
 -- Records with what a step appends.
 
@@ -353,6 +282,19 @@ fits_case P before p lsid number t (Some s) go has is h =
     ⊎_elim (λ (same : s ≡ t). subst (λ (x : Session). x.number ≤ℤ number) same above)
     (λ (lower : t.number <ℤ s.number). below_above t.number s.number number lower above) h
 
+-- the message that asks for a commit was sent
+asked_for : (sent : List Envelope) (w : Happening) (boot : ℕ) (tag : Tag) (lsid : Lsid)
+    (number : ℤ) (read_at at : ℕ) (writes : List Write) → WasSent sent w
+    → EventAsksFor w boot (rec.Commit tag lsid number read_at at writes)
+    → (d : Envelope) × (m : Commit) × Contains sent d × (d.msg ≡ msg.Commit m) × (m.tag ≡ tag)
+    × (m.boot ≡ boot)
+asked_for sent (what.Deliver e) boot tag lsid number read_at at writes there h =
+    (e, h.0, there, h.1, h.2, h.3)
+asked_for sent (what.Client conn frame) boot tag lsid number read_at at writes there h = absurd h
+asked_for sent (what.Gone conn) boot tag lsid number read_at at writes there h = absurd h
+asked_for sent what.Resend boot tag lsid number read_at at writes there h = absurd h
+asked_for sent what.Moment boot tag lsid number read_at at writes there h = absurd h
+
 -- The step.
 
 module _ (sent : List Envelope) (once : IsOnce (WasNamed sent)) (room : Room) (s : ShardState)
@@ -396,36 +338,36 @@ module _ (sent : List Envelope) (once : IsOnce (WasNamed sent)) (room : Room) (s
     pub runs : Runs M o.core (commits_by now) told
     pub out : All (InTold told) (given_out o.answer)
 
-  -- the boot stays
-  same_boot : serves.entered.boot ≡ o.core.part.boot
-  same_boot =
-      ⊎_elim (λ (h : serves.entered ≡ s.part). ap (λ (x : Part). x.boot) h)
-      (λ (h : (wall : ℕ) × (serves.entered ≡ expire s.part wall)).
-      ap (λ (x : Part). x.boot) h.1 ∙ (expire_goes M s.part h.0).boot) serves.enters
-      ∙ sym does.goes.boot
+  -- what was served grew
+  abbrev More : Served → Type 0
+  More x = IsMore sent once s (commits_by recs) served g l.opens l.holds serves.entered
+      serves.enters o.core.part does.goes.boot serves.told x
 
-  -- what is said of each served statement, where one more is
-  grown : (Q : Served → Type 0) → Each Q served → ((x : Served) → WasAsked sent x
-      → x.life ≡ o.core.part.boot → IsHeld M o.core.part.sessions x.tag → Q x) → Each Q serves.told
-  grown Q h k =
-      ⊎_elim (λ (same : serves.told ≡ served). subst (Each Q) (sym same) h)
-      (λ (more : (x : Served) × (serves.told ≡ x ∷ served) × WasAsked sent x
-      × (x.life ≡ o.core.part.boot) × IsHeld M o.core.part.sessions x.tag).
-      subst (Each Q) (sym more.1) (k more.0 more.2 more.3 more.4, h))
-      (grew sent served serves.told serves.entered o.core.part same_boot e.what (given_out o.answer)
-      comes serves.grows
-      does.served)
+  grows : Grew sent once s (commits_by recs) served g l.opens l.holds serves.entered
+      serves.enters o.core.part does.goes.boot serves.told
+  grows = grew sent once s (commits_by recs) served g l.opens l.holds serves.entered
+      serves.enters o.core.part does.goes.boot serves.told e.what (given_out o.answer) comes
+      (event_named sent e.what comes) serves.grows does.served
+
+  -- what is said of what was served, where one more is
+  told_by : (Q : List Served → Type 0) → Q served → ((x : Served) → More x → Q (x ∷ served))
+      → Q serves.told
+  told_by Q h k =
+      ⊎_elim (λ (same : serves.told ≡ served). subst Q (sym same) h)
+      (λ (more : (x : Served) × More x). subst Q (sym more.1.is) (k more.0 more.1)) grows.0
+
+  -- what is said of each
+  grown : (Q : Served → Type 0) → Each Q served → ((x : Served) → More x → Q x)
+      → Each Q serves.told
+  grown Q h k = told_by (Each Q) h (λ x more. (k x more, h))
 
   told_still : All (InTold serves.told) sent
-  told_still =
-      ⊎_elim (λ (same : serves.told ≡ served).
-      subst (λ (told : List Served). All (InTold told) sent) (sym same) l.told)
-      (λ (more : (x : Served) × (serves.told ≡ x ∷ served) × WasAsked sent x × (x.life
-      ≡ o.core.part.boot) × IsHeld M o.core.part.sessions x.tag). subst (λ (told : List Served).
-      All (InTold told) sent) (sym more.1) (all_told_more more.0 served sent l.told))
-      (grew sent served serves.told serves.entered o.core.part same_boot e.what (given_out o.answer)
-      comes serves.grows
-      does.served)
+  told_still = told_by (λ (told : List Served). All (InTold told) sent) l.told
+      (λ x more. all_told_more x served sent l.told)
+
+  whole_still : Each (WasCommitted sent serves.told) (commits_by recs)
+  whole_still = told_by (λ (told : List Served). Each (WasCommitted sent told) (commits_by recs))
+      l.whole (λ x more. committed_still sent x served (commits_by recs) more.apart l.whole)
 
   held_still : (tag : Tag) → IsHeld M s.part.sessions tag → IsHeld M o.core.part.sessions tag
   held_still tag h = held_on M s.part.sessions o.core.part.sessions does.goes.sessions tag h
@@ -442,8 +384,9 @@ module _ (sent : List Envelope) (once : IsOnce (WasNamed sent)) (room : Room) (s
   built : (entries : List Entry) → RecordsAlone M now → commits_by now ≡ entries
       → Holds l.opens o.core.part o.core.clock.last entries serves.told
       → Each (λ (f : Entry). f.at ≤ o.core.clock.last) entries
-      → Each (λ (f : Entry). IsHeld M o.core.part.sessions f.tag) entries → Behind
-  built entries records is holds below held =
+      → Each (λ (f : Entry). IsHeld M o.core.part.sessions f.tag) entries
+      → Each (WasCommitted sent serves.told) entries → Behind
+  built entries records is holds below held whole =
       record {
         told = serves.told;
         lasts = record {
@@ -453,25 +396,33 @@ module _ (sent : List Envelope) (once : IsOnce (WasNamed sent)) (room : Room) (s
           below = subst (Each (λ (f : Entry). f.at ≤ o.core.clock.last)) (sym is) below;
           clock = time.clock.below;
           backed = step_is_backed room s e recs l.backed;
-          lives = grown (λ (x : Served). x.life ≤ o.core.part.boot) (each_more
-              (λ (x : Served). x.life ≤ s.part.boot) (λ (x : Served). x.life ≤ o.core.part.boot)
-              (λ x h. subst (λ (n : ℕ). x.life ≤ n) (sym does.goes.boot) h) served l.lives)
-              (λ x asked life has. same_at x.life o.core.part.boot life);
+          lives = grown (λ (x : Served). (0 < x.life) × (x.life ≤ o.core.part.boot)) (each_more
+              (λ (x : Served). (0 < x.life) × (x.life ≤ s.part.boot))
+              (λ (x : Served). (0 < x.life) × (x.life ≤ o.core.part.boot))
+              (λ x h. (h.0, subst (λ (n : ℕ). x.life ≤ n) (sym does.goes.boot) h.1)) served l.lives)
+              (λ x more. (
+                subst (λ (n : ℕ). 0 < n) (sym (more.life ∙ does.goes.boot)) g.boot,
+                same_at x.life o.core.part.boot more.life,
+              ));
           told = told_still;
-          asked = grown (WasAsked sent) l.asked (λ x asked life has. asked);
+          asked = told_by (AllAsked sent) l.asked (λ x more. (more.asked, l.asked));
+          rises = told_by InOrder l.rises (λ x more. (more.after, l.rises));
+          whole = subst (Each (WasCommitted sent serves.told)) (sym is) whole;
           alone = records;
         };
         runs = record {
           coord = does.coord;
+          boot = subst (λ (n : ℕ). 0 < n) (sym does.goes.boot) g.boot;
           named = does.goes.sessions.named g.named;
           has_served = grown (λ (x : Served). x.life ≡ o.core.part.boot
               → IsHeld M o.core.part.sessions x.tag)
               (each_more (λ (x : Served). x.life ≡ s.part.boot → IsHeld M s.part.sessions x.tag)
               (λ (x : Served). x.life ≡ o.core.part.boot → IsHeld M o.core.part.sessions x.tag)
               (λ x h life. held_still x.tag (h (life ∙ does.goes.boot))) served g.has_served)
-              (λ x asked life has any. has);
+              (λ x more any. more.held);
           has_committed =
               subst (Each (λ (f : Entry). IsHeld M o.core.part.sessions f.tag)) (sym is) held;
+          has_newest = grows.1;
         };
         out = serves.answered;
       }
@@ -484,7 +435,7 @@ module _ (sent : List Envelope) (once : IsOnce (WasNamed sent)) (room : Room) (s
       RecordsAlone M (recs ++ joined (ceiling_append o.ceiling ++ record_append x))
       × (commits_by (recs ++ joined (ceiling_append o.ceiling ++ record_append x))
       ≡ commits_by recs)) (sym (is ∙ none)) q in
-      built (commits_by recs) k.0 k.1 holds below_still held_entries
+      built (commits_by recs) k.0 k.1 holds below_still held_entries whole_still
 
   commits_behind : Committed o.core.part serves.last (commits_by recs) serves.told l.opens o.rec
       → Behind
@@ -496,6 +447,10 @@ module _ (sent : List Envelope) (once : IsOnce (WasNamed sent)) (room : Room) (s
       × RecHeld M p o.core.part o.core.clock.last y)) c.is does.rec in
       let p : Part = stands.0 in
       let held = stands.2 in
+      let asks : EventAsksFor e.what o.core.part.boot r = subst (λ (x : Option Rec).
+      IfSome x (EventAsksFor e.what o.core.part.boot)) c.is does.asked in
+      let a = asked_for sent e.what o.core.part.boot c.tag c.lsid c.number c.read_at c.at c.writes
+      comes asks in
       let fits : (t : Session) → session_of (image_of recs).sessions c.lsid ≡ Some t
       → t.number ≤ℤ c.number = λ t there.
       fits_case M s.part p c.lsid c.number t (session s.part c.lsid) stands.1 held.1
@@ -518,6 +473,14 @@ module _ (sent : List Envelope) (once : IsOnce (WasNamed sent)) (room : Room) (s
       (each_last (λ (f : Entry). IsHeld M o.core.part.sessions f.tag)
       (commits_by recs) f held_entries
       (record { tag = c.tag; lsid = c.lsid; number = c.number }, held.0, refl, held.2))
+      (each_last (WasCommitted sent serves.told) (commits_by recs) f whole_still (
+        a.0,
+        a.1,
+        a.2,
+        a.3,
+        a.4,
+        c.wrote ∙ ap (λ (n : ℕ). write_set (written c.tag n serves.told)) (sym a.5),
+      ))
 
   pub behind : Behind
   behind =

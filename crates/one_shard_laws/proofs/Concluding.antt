@@ -1,5 +1,5 @@
 -- What holds of a cluster of one shard is right.
-use Rattle.std.proofs.Common.{◌≡◌, ◌++◌, arith, ℕ, Bool, true, false, List, [], ◌∷◌, All}
+use Rattle.std.proofs.Common.{◌≡◌, ◌≤◌, ◌<◌, ◌++◌, arith, ℕ, Bool, true, false, List, [], ◌∷◌, All}
 use Rattle.std.proofs.Common.{AllPairs, map, ap, subst, sym}
 use Rattle.std.specs.Bool.{IsTrue}
 use Rattle.std.proofs.lemmas.List.Elements.{All-head, All-tail, All-weaker}
@@ -11,7 +11,7 @@ use Rattle.journal_rec.specs.declared.record.Rec.{Rec}
 use Rattle.journal_rec.specs.declared.record.Rec.TheVariants as rec
 use Rattle.part_laws.specs.Each.{Each}
 use Rattle.part_laws.specs.Now.{AreRight}
-use Rattle.part_laws.specs.Sound.{Served, AreApart, AllApart, EntryWhole}
+use Rattle.part_laws.specs.Sound.{Served, EntryRight, AreApart, AllApart}
 use Rattle.part_laws.proofs.Judged.{served_are_right, first_commits}
 use Rattle.shard_core.specs.NodeStep.{NodeState}
 use Rattle.txn_model.specs.Commits.{Journals, commits}
@@ -19,9 +19,9 @@ use Rattle.txn_model.specs.Decisions.{AllGreatest, DecisionsGreatest, AbortsNone
 use Rattle.txn_types.specs.Letters.{Named}
 use Rattle.cluster_core.specs.Nodes.{Nodes, journals_of, commits_of}
 use Rattle.one_shard_laws.specs.Alone.{RecAlone}
-use Rattle.one_shard_laws.specs.Lasting.{WasNamed, commits_by, Lasts, OneShard}
+use Rattle.one_shard_laws.specs.Lasting.{WasNamed, WasCommitted, commits_by, Lasts, OneShard}
 use Rattle.one_shard_laws.specs.Concluding.{ServedRight}
-use Rattle.one_shard_laws.proofs.Listing.{each_all}
+use Rattle.one_shard_laws.proofs.Listing.{each_more, each_all}
 use Rattle.one_shard_laws.proofs.Ruling.{one}
 
 -- No record decides for several shards.
@@ -121,10 +121,14 @@ module _ (nodes : Nodes) (h : OneShard nodes) where
       let served : List Served = h.right.kept.1 in
       record {
         served = served;
+        lives = each_more (λ (x : Served). (0 < x.life) × (x.life ≤ h.right.kept.0.part.boot))
+            (λ (x : Served). 0 < x.life) (λ x k. k.0) served last.lives;
         asked = last.asked;
+        rises = last.rises;
         reads = subst (λ (es : List Entry). AreRight es served) (sym commits_are)
             (served_are_right h.right.kept.0.part.store last.opens h.right.kept.0.clock.last
             (commits_by recs) served last.holds.sound);
-        whole = subst (Each (EntryWhole served)) (sym commits_are) last.holds.sound.whole;
+        known = subst (Each EntryRight) (sym commits_are) last.holds.sound.known;
+        whole = subst (Each (WasCommitted nodes.sent served)) (sym commits_are) last.whole;
         told = last.told;
       }

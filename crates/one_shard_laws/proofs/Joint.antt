@@ -39,7 +39,7 @@ use Rattle.one_shard_laws.specs.Asking.{DoingAsks, RouterAsks}
 use Rattle.one_shard_laws.proofs.Asking.{router_asks}
 use Rattle.one_shard_laws.specs.Lasting.{WasNamed, IsRight, OneShard}
 use Rattle.one_shard_laws.specs.Concluding.{StartsAlone}
-use Rattle.one_shard_laws.proofs.Behind.{WasSent}
+use Rattle.one_shard_laws.proofs.Growing.{WasSent}
 use Rattle.one_shard_laws.proofs.Nodes.{AllTold, right_more, takes_right, again_right, first_right}
 
 abbrev Alone : Envelope → Type 0

@@ -4,6 +4,7 @@ pub mod Stepping
 pub mod Listing
 pub mod Recording
 pub mod Beginning
+pub mod Growing
 pub mod Behind
 pub mod Nodes
 pub mod Asking

@@ -1,5 +1,5 @@
 -- What holds of one shard's node holds after what it takes, and where it starts again.
-use Rattle.std.proofs.Common.{◌≡◌, ◌⊎◌, inl, inr, ⊎_elim, ◌≤◌, ◌+◌, ◌++◌, ℕ, List, [], ◌∷◌}
+use Rattle.std.proofs.Common.{◌≡◌, ◌⊎◌, inl, inr, ⊎_elim, ◌≤◌, ◌<◌, ◌+◌, ◌++◌, ℕ, List, [], ◌∷◌}
 use Rattle.std.proofs.Common.{filter_map, All, Contains, Option, Some, None, refl, ap}
 use Rattle.std.proofs.Common.{subst, ◌∙◌, sym, arith, unwrap_or}
 use Rattle.std.proofs.lemmas.List.{append-nil}
@@ -18,7 +18,9 @@ use Rattle.txn_semantics.specs.declared.commits.Entry.{Entry}
 use Rattle.session_table.specs.Sessions.{Table}
 use Rattle.journal_rec.specs.declared.record.Rec.{Rec}
 use Rattle.journal_rec.specs.declared.record.Rec.TheVariants as rec
-use Rattle.shard_image.specs.Image.{image_of}
+use Rattle.participant.specs.declared.said.Open.{Open}
+use Rattle.participant.specs.Part.{open_of}
+use Rattle.shard_image.specs.Image.{Image, image_of}
 use Rattle.shard_image.specs.Sound.{AreWritten}
 use Rattle.part_laws.specs.Each.{Each}
 use Rattle.part_laws.specs.Sound.{Served}
@@ -34,6 +36,7 @@ use Rattle.shard_core.specs.NodeStep.{started}
 use Rattle.durable_laws.specs.Backed.{IsBacked, IsDurableNode, IsLeft, at_ceiling, kept_state}
 use Rattle.durable_laws.specs.Backed.{lost_state}
 use Rattle.durable_laws.proofs.Beginning.{start_backed, start_finds}
+use Rattle.durable_laws.proofs.Facts.{image_append}
 use Rattle.durable_laws.proofs.Nodes.{written_front}
 use Rattle.durable_laws.proofs.Stepping.{fault_is_backed}
 use Rattle.txn_types.specs.Letters.{Named, named_in, given_out}
@@ -42,13 +45,14 @@ use Rattle.serving_laws.specs.Telling.{IsToldBy}
 use Rattle.serving_laws.proofs.Starting.{start_serves, first_serves}
 use Rattle.one_shard_laws.specs.Sessions.{SessionsNamed, IsHeld, IsOnce}
 use Rattle.one_shard_laws.specs.Alone.{IsAlone, EventAlone}
-use Rattle.one_shard_laws.specs.Lasting.{WasNamed, WasAsked, commits_by, RecordsAlone, Lasts, Runs}
-use Rattle.one_shard_laws.specs.Lasting.{HasLast, HasRun, IsRight}
+use Rattle.one_shard_laws.specs.Lasting.{WasNamed, WasAsked, AllAsked, WasCommitted, commits_by}
+use Rattle.one_shard_laws.specs.Lasting.{RecordsAlone, Lasts, Runs, HasLast, HasRun, IsRight}
 use Rattle.one_shard_laws.proofs.Ruling.{nothing, one}
 use Rattle.one_shard_laws.proofs.Listing.{each_more, ceiling_more, boot_more}
 use Rattle.one_shard_laws.proofs.Recording.{held_named, alone_named, no_commits, none_alone}
 use Rattle.one_shard_laws.proofs.Recording.{ceiling_alone, boot_alone}
-use Rattle.one_shard_laws.proofs.Behind.{WasSent, both_appended, Behind, behind, does}
+use Rattle.one_shard_laws.proofs.Growing.{WasSent}
+use Rattle.one_shard_laws.proofs.Behind.{both_appended, Behind, behind, does}
 
 -- More is sent.
 
@@ -60,8 +64,26 @@ named_more sent out x h = subst (λ (ns : List Named).
     Contains ns x) (sym (filter_map-append (λ (e : Envelope). named_in e.msg) sent out))
     (Contains-append_left (names sent) (names out) x h)
 
-asked_more : (sent out : List Envelope) (x : Served) → WasAsked sent x → WasAsked (sent ++ out) x
-asked_more sent out x h = (h.0, h.1, Contains-append_left sent out h.0 h.2, h.3, h.4, h.5)
+asked_more : (sent out : List Envelope) (served : List Served) → AllAsked sent served
+    → AllAsked (sent ++ out) served
+asked_more sent out [] h = tt
+asked_more sent out (x ∷ served) h =
+    let first : WasAsked sent served x = h.0 in (
+      (
+        first.0,
+        first.1,
+        Contains-append_left sent out first.0 first.2,
+        first.3,
+        first.4,
+        first.5,
+      ),
+      asked_more sent out served h.1,
+    )
+
+committed_more : (sent out : List Envelope) (served : List Served) (e : Entry)
+    → WasCommitted sent served e → WasCommitted (sent ++ out) served e
+committed_more sent out served e h =
+    (h.0, h.1, Contains-append_left sent out h.0 h.2, h.3, h.4, h.5)
 
 pub lasts_more : (sent out : List Envelope) (recs : List Rec)
     (s : ShardState) (served : List Served) → Lasts sent recs s served
@@ -75,8 +97,10 @@ lasts_more sent out recs s served l told =
       backed = l.backed;
       lives = l.lives;
       told = All-append (λ (e : Envelope). IsToldBy served e.msg) sent out l.told told;
-      asked =
-          each_more (WasAsked sent) (WasAsked (sent ++ out)) (asked_more sent out) served l.asked;
+      asked = asked_more sent out served l.asked;
+      rises = l.rises;
+      whole = each_more (WasCommitted sent served) (WasCommitted (sent ++ out) served)
+          (committed_more sent out served) (commits_by recs) l.whole;
       alone =
           alone_named (WasNamed sent) (WasNamed (sent ++ out)) (named_more sent out) recs l.alone;
     }
@@ -87,6 +111,7 @@ runs_more : (P Q : Named → Type 0) → ((x : Named) → P x → Q x)
 runs_more P Q f s entries served g =
     record {
       coord = g.coord;
+      boot = g.boot;
       named = λ lsid t there. f _ (g.named lsid t there);
       has_served = each_more (λ (x : Served). x.life ≡ s.part.boot → IsHeld P s.part.sessions x.tag)
           (λ (x : Served). x.life ≡ s.part.boot → IsHeld Q s.part.sessions x.tag) (λ x h life.
@@ -94,6 +119,7 @@ runs_more P Q f s entries served g =
       has_committed = each_more (λ (e : Entry). IsHeld P s.part.sessions e.tag) (λ (e : Entry).
           IsHeld Q s.part.sessions e.tag) (λ e h. held_named P Q f s.part.sessions e.tag h) entries
           g.has_committed;
+      has_newest = g.has_newest;
     }
 
 -- what was sent tells of what was served, whatever that is
@@ -260,6 +286,8 @@ ceiling_lasts sent recs s served o bound l time backed =
       lives = l.lives;
       told = l.told;
       asked = l.asked;
+      rises = l.rises;
+      whole = subst (Each (WasCommitted sent served)) (sym (ceiling_more recs bound)) l.whole;
       alone = ceiling_alone (WasNamed sent) recs l.alone bound;
     }
 
@@ -457,6 +485,9 @@ above_all at last ceiling now h k is = omega (arith, h, k, is)
 not_next : (life boot now : ℕ) → life ≤ boot → now ≡ boot + 1 → life ≡ now → ⊥
 not_next life boot now h k is = omega (arith, h, k, is)
 
+positive : (now boot : ℕ) → now ≡ boot + 1 → 0 < now
+positive now boot h = omega (arith, h)
+
 below_next : (life boot now : ℕ) → life ≤ boot → now ≡ boot + 1 → life ≤ now
 below_next life boot now h k = omega (arith, h, k)
 
@@ -471,6 +502,10 @@ module _ (sent : List Envelope) (recs : List Rec) (faults : ℕ) (m : NodeState)
   booted : RecordsAlone (WasNamed sent) all
   booted = boot_alone (WasNamed sent) recs alone ((image_of recs).boot + 1)
 
+  boot_is : m.core.part.boot ≡ (image_of recs).boot + 1
+  boot_is = ap (λ (n : NodeState). n.core.part.boot) is
+      ∙ ap (λ (i : Image). i.boot) (image_append recs (boot_behind (image_of recs) ∷ []))
+
   started_right : Lasts sent all m.core served → Each (λ (x : Served). x.life ≡ m.core.part.boot
       → ⊥) served → IsRight sent m.core m.records m.hand
   started_right last new =
@@ -478,12 +513,15 @@ module _ (sent : List Envelope) (recs : List Rec) (faults : ℕ) (m : NodeState)
       ap (λ (n : NodeState). n.core.part.sessions) is in
       let runs : Runs (WasNamed sent) m.core (commits_by all) served = record {
         coord = ap (λ (n : NodeState). n.core.coord) is ∙ booted.coord;
+        boot = positive m.core.part.boot (image_of recs).boot boot_is;
         named = subst (SessionsNamed (WasNamed sent)) (sym sessions) booted.named;
         has_served = each_more (λ (x : Served). x.life ≡ m.core.part.boot
             → ⊥) (λ (x : Served). x.life ≡ m.core.part.boot → IsHeld (WasNamed sent)
             m.core.part.sessions x.tag) (λ x never life. absurd (never life)) served new;
         has_committed = subst (λ (t : Table). Each (λ (e : Entry). IsHeld (WasNamed sent) t e.tag)
             (commits_by all)) (sym sessions) booted.held;
+        has_newest = λ lsid o there. let wrong : ◌≡◌ {A = Option Open} None (Some o) =
+            sym (ap (λ (n : NodeState). open_of n.core.part lsid) is) ∙ there in cc;
       } in
       of_node sent m.core all [] m refl (ap (λ (n : NodeState). n.records) is)
       (ap (λ (n : NodeState). n.hand) is)
@@ -530,15 +568,19 @@ again_right sent n recs faults m durable right left go =
           (commits_by recs) l.below);
       clock = same_both m.core.clock.last m.core.clock.ceiling s.clock.ceiling last top;
       backed = backed_now sent recs faults m go l.alone served written;
-      lives = each_more (λ (x : Served). x.life ≤ s.part.boot) (λ (x : Served). x.life
-          ≤ m.core.part.boot) (λ x k. below_next x.life s.part.boot m.core.part.boot k found.boot)
+      lives = each_more (λ (x : Served). (0 < x.life) × (x.life ≤ s.part.boot))
+          (λ (x : Served). (0 < x.life) × (x.life ≤ m.core.part.boot))
+          (λ x k. (k.0, below_next x.life s.part.boot m.core.part.boot k.1 found.boot))
           served l.lives;
       told = l.told;
       asked = l.asked;
+      rises = l.rises;
+      whole = subst (Each (WasCommitted sent served)) (sym boot) l.whole;
       alone = booted sent recs faults m go l.alone served;
     })
-    (each_more (λ (x : Served). x.life ≤ s.part.boot) (λ (x : Served). x.life ≡ m.core.part.boot
-    → ⊥) (λ x k. not_next x.life s.part.boot m.core.part.boot k found.boot) served l.lives)
+    (each_more (λ (x : Served). (0 < x.life) × (x.life ≤ s.part.boot))
+    (λ (x : Served). x.life ≡ m.core.part.boot → ⊥)
+    (λ x k. not_next x.life s.part.boot m.core.part.boot k.1 found.boot) served l.lives)
   where
     same_both : (last ceiling top : ℕ) → last ≡ top → ceiling ≡ top → last ≤ ceiling
     same_both last ceiling top h k = omega (arith, h, k)
@@ -560,6 +602,8 @@ first_right faults m go =
       lives = tt;
       told = nothing (λ (e : Envelope). IsToldBy [] e.msg);
       asked = tt;
+      rises = tt;
+      whole = subst (Each (WasCommitted [] [])) (sym boot) tt;
       alone = booted [] [] faults m go alone [];
     }) tt
   where

@@ -30,7 +30,7 @@ use Rattle.shard_core.specs.Coordinating.{unless_older, on_recover, on_resend}
 use Rattle.shard_core.specs.Rules.{ruled, from_router, router_of}
 use Rattle.txn_types.specs.Letters.{Named, named_in}
 use Rattle.one_shard_laws.specs.Sessions.{SessionsNamed, GoesOn, IsOnce}
-use Rattle.one_shard_laws.specs.Alone.{IsAlone, RecHeld, SaidAtLeast, ServedAtLeast}
+use Rattle.one_shard_laws.specs.Alone.{IsAlone, RecHeld, AsksFor, SaidAtLeast, ServedAtLeast}
 use Rattle.one_shard_laws.proofs.Sessions.{same_goes, statement_goes, commit_goes}
 use Rattle.one_shard_laws.proofs.Sessions.{client_abort_goes, recover_goes}
 
@@ -50,6 +50,7 @@ pub record RuleAlone (P : Named → Type 0) (s : ShardState) (m : Msg) (r : Rule
   pub goes : GoesOn P s.part r.core.part
   pub coord : r.core.coord ≡ []
   pub rec : IfSome r.rec (RecHeld P s.part r.core.part r.core.clock.last)
+  pub asked : IfSome r.rec (AsksFor m r.core.part.boot)
   pub out : All LetterAlone r.out
   pub served : All (LetterAtLeast r.core.part m) r.out
 
@@ -62,6 +63,7 @@ quiet_alone P s m q goes coord =
       goes = goes;
       coord = coord;
       rec = tt;
+      asked = tt;
       out = nothing LetterAlone;
       served = nothing (LetterAtLeast q m);
     }
@@ -74,6 +76,7 @@ says_alone P s m q l goes coord alone served =
       goes = goes;
       coord = coord;
       rec = tt;
+      asked = tt;
       out = one LetterAlone l alone;
       served = one (LetterAtLeast q m) l served;
     }
@@ -91,6 +94,7 @@ said_alone P s own to m q (Blocked h) goes held coord = record {
   goes = goes;
   coord = coord;
   rec = tt;
+  asked = tt;
   out = nothing LetterAlone;
   served = nothing (LetterAtLeast q (msg.Statement m));
 }
@@ -127,6 +131,7 @@ resend_alone P s m none =
       goes = same_goes P s.part;
       coord = none;
       rec = tt;
+      asked = tt;
       out = resends_none LetterAlone s.part.shard s.coord none;
       served = resends_none (LetterAtLeast s.part m) s.part.shard s.coord none;
     }
@@ -177,6 +182,7 @@ ruled_alone P once s own all none from (msg.Commit m) alone named =
       goes = h.0;
       coord = none;
       rec = h.1;
+      asked = h.2;
       out = outcome_alone s m.tag from c.told;
       served = outcome_served c.part m s m.tag from c.told;
     }

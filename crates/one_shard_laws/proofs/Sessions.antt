@@ -12,6 +12,7 @@ use Rattle.txn_types.specs.declared.decision.Told.TheVariants as told
 use Rattle.txn_types.specs.declared.id.Id.{Id}
 use Rattle.txn_types.specs.declared.message.Abort.{Abort}
 use Rattle.txn_types.specs.declared.message.Commit.{Commit}
+use Rattle.txn_types.specs.declared.message.Msg.TheVariants as msg
 use Rattle.txn_types.specs.declared.message.Recover.{Recover}
 use Rattle.txn_types.specs.declared.message.Statement.{Statement}
 use Rattle.txn_types.specs.declared.names.Tag.{Tag}
@@ -49,7 +50,7 @@ use Rattle.participant.proofs.Moving.{entry_here}
 use Rattle.participant.proofs.Tags.{lsid_same, tag_same}
 use Rattle.txn_types.specs.Letters.{Named}
 use Rattle.one_shard_laws.specs.Sessions.{AtLeast, name_of, SessionsNamed, TablesGo, GoesOn, IsOnce}
-use Rattle.one_shard_laws.specs.Alone.{RecHeld, IsMeant, SaidAtLeast}
+use Rattle.one_shard_laws.specs.Alone.{RecHeld, AsksFor, IsMeant, SaidAtLeast}
 
 pub least_same : (n : ℤ) → n ≤ℤ n
 least_same n = grind arith
@@ -59,6 +60,9 @@ least_then a b c h k = grind (arith, h, k)
 
 same_time : (n : ℕ) → n ≤ n
 same_time n = omega arith
+
+pub same_boot : (a b : ℕ) → nat_eq a b ≡ true → a ≡ b
+same_boot a b h = grind (arith, h)
 
 pub below_above : (a b c : ℤ) → a <ℤ b → b ≤ℤ c → a ≤ℤ c
 below_above a b c h k = grind (arith, h, k)
@@ -313,22 +317,24 @@ module _ (P : Named → Type 0) (p : Part) (all : SessionsNamed P p.sessions) (l
     (m : Commit) where
   abbrev C : Committing → Type 0
   C c = GoesOn P p c.part × IfSome c.rec (RecHeld P p c.part c.last)
+      × IfSome c.rec (AsksFor (msg.Commit m) c.part.boot)
 
   tells_goes : (t : Told) → C (co.tells p last t)
-  tells_goes t = (same_goes P p, tt)
+  tells_goes t = (same_goes P p, tt, tt)
 
-  module _ (s : Session) (is : session p m.lsid ≡ Some s) where
+  module _ (s : Session) (is : session p m.lsid ≡ Some s) (same : m.tag ≡ s.tag) where
     fails_goes : (why : Cause) → C (co.fails p last m s why)
-    fails_goes why = (abort_goes P p m.lsid s why is, tt)
+    fails_goes why = (abort_goes P p m.lsid s why is, tt, tt)
 
     releases_goes : C (co.releases p last m s)
     releases_goes = (
       state_goes P p (ended p m.lsid s state.Released) m.lsid s state.Released is refl refl refl,
       tt,
+      tt,
     )
 
-    commits_goes : (o : Open) (at : ℕ) → C (co.commits p m s o at)
-    commits_goes o at =
+    commits_goes : m.boot ≡ p.boot → (o : Open) (at : ℕ) → C (co.commits p m s o at)
+    commits_goes boot o at =
         let new : Session = record {
           number = s.number;
           tag = s.tag;
@@ -342,24 +348,28 @@ module _ (P : Named → Type 0) (p : Part) (all : SessionsNamed P p.sessions) (l
             (new, entry_here m.lsid new p.sessions.entries, least_same s.number),
             same_time at,
           ),
+          (m, refl, same, boot),
         )
 
-    by_goes : (o : Open) (at : Option ℕ) → C (co.commits_by p last m s o at)
-    by_goes o None = fails_goes (cause.ClockEnd last)
-    by_goes o (Some at) = commits_goes o at
+    by_goes : m.boot ≡ p.boot → (o : Open) (at : Option ℕ) → C (co.commits_by p last m s o at)
+    by_goes boot o None = fails_goes (cause.ClockEnd last)
+    by_goes boot o (Some at) = commits_goes boot o at
 
-    writes_goes : (o : Open) (writes : List Write) → C (co.commits_writes p last wall m s o writes)
-    writes_goes o [] = releases_goes
-    writes_goes o (write ∷ writes) = by_goes o (ticked last wall)
+    writes_goes : m.boot ≡ p.boot → (o : Open) (writes : List Write)
+        → C (co.commits_writes p last wall m s o writes)
+    writes_goes boot o [] = releases_goes
+    writes_goes boot o (write ∷ writes) = by_goes boot o (ticked last wall)
 
-    open_goes : (o : Option Open) → C (co.commits_open p last wall m s o)
-    open_goes None = releases_goes
-    open_goes (Some o) = writes_goes o o.writes
+    open_goes : m.boot ≡ p.boot → (o : Option Open) → C (co.commits_open p last wall m s o)
+    open_goes boot None = releases_goes
+    open_goes boot (Some o) = writes_goes boot o o.writes
 
     own_goes : (st : SessionState) → C (co.commits_own p last wall m s st)
-    own_goes state.Live = either (nat_eq m.boot p.boot) C _ _ (open_goes (open_of p m.lsid))
-        (fails_goes (cause.Unavailable m.boot p.boot))
-    own_goes (state.Prepared at coordinator) = (same_goes P p, tt)
+    own_goes state.Live =
+        either_is (nat_eq m.boot p.boot) C _ _
+        (λ now. open_goes (same_boot m.boot p.boot now) (open_of p m.lsid))
+        (λ other. fails_goes (cause.Unavailable m.boot p.boot))
+    own_goes (state.Prepared at coordinator) = (same_goes P p, tt, tt)
     own_goes (state.Committed at) = tells_goes (told.Committed at)
     own_goes state.Released = tells_goes told.Released
     own_goes (state.Aborted why read_at) = tells_goes (told.Aborted why)
@@ -369,8 +379,9 @@ module _ (P : Named → Type 0) (p : Part) (all : SessionsNamed P p.sessions) (l
   committing_goes None is = tells_goes (told.Aborted (cause.Unavailable m.boot p.boot))
   committing_goes (Some s) is =
       either (int_lt m.number s.number) C _ _ (tells_goes (told.TooOld s.number))
-      (either (same_tag s.tag m.tag) C _ _ (own_goes s is s.state)
-      (tells_goes (told.Aborted (cause.Unavailable m.boot p.boot))))
+      (either_is (same_tag s.tag m.tag) C _ _
+      (λ same. own_goes s is (sym (tag_same s.tag m.tag same)) s.state)
+      (λ apart. tells_goes (told.Aborted (cause.Unavailable m.boot p.boot))))
 
   pub commit_goes : C (commit p last wall m)
   unfolding commit

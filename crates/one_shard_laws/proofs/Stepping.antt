@@ -32,7 +32,7 @@ use Rattle.txn_types.specs.Letters.{Named, given_out}
 use Rattle.shard_core.specs.Effect.{NamesBy}
 use Rattle.one_shard_laws.specs.Sessions.{SessionsNamed, GoesOn, IsOnce}
 use Rattle.one_shard_laws.specs.Alone.{IsAlone, EventAlone, EventAtLeast, ServedAtLeast, RecHeld}
-use Rattle.one_shard_laws.specs.Alone.{StepAlone}
+use Rattle.one_shard_laws.specs.Alone.{EventAsksFor, StepAlone}
 use Rattle.one_shard_laws.proofs.Sessions.{same_goes, both_go, expire_goes, memory_goes}
 use Rattle.one_shard_laws.proofs.Ruling.{nothing, one, LetterAtLeast, RuleAlone}
 use Rattle.one_shard_laws.proofs.Ruling.{quiet_alone, says_alone, resend_alone, ruled_alone}
@@ -63,12 +63,14 @@ module _ (P : Named → Type 0) (s : ShardState) where
   -- from a state that went on
   from : (w : Happening) (m : Msg) (t : ShardState) (ceiling : Option ℕ) (r : Ruled)
       → GoesOn P s.part t.part → ((q : Part) (a : Msg) → ServedAtLeast q m a → EventAtLeast q w a)
-      → RuleAlone P t m r → StepAlone P s w (stepped ceiling r)
-  from w m t ceiling r goes taken h =
+      → IfSome r.rec (EventAsksFor w r.core.part.boot) → RuleAlone P t m r
+      → StepAlone P s w (stepped ceiling r)
+  from w m t ceiling r goes taken asked h =
       record {
         goes = both_go P s.part t.part r.core.part goes h.goes;
         coord = h.coord;
         rec = held_from t.part r r.rec goes h.rec;
+        asked = asked;
         out = given IsAlone r.core r.out r.held h.out;
         served = given (EventAtLeast r.core.part w) r.core r.out r.held
             (All-weaker (LetterAtLeast r.core.part m) (λ (l : Letter).
@@ -78,7 +80,14 @@ module _ (P : Named → Type 0) (s : ShardState) where
   rests : (w : Happening) (a : NodeAnswer) → s.coord ≡ [] → All OutAlone (given_out a)
       → All (OutAtLeast s.part w) (given_out a) → StepAlone P s w (stays s a)
   rests w a none out served =
-      record { goes = same_goes P s.part; coord = none; rec = tt; out = out; served = served }
+      record {
+        goes = same_goes P s.part;
+        coord = none;
+        rec = tt;
+        asked = tt;
+        out = out;
+        served = served;
+      }
 
   silent : (w : Happening) (a : NodeAnswer) → s.coord ≡ [] → given_out a ≡ []
       → StepAlone P s w (stays s a)
@@ -122,18 +131,18 @@ module _ (P : Named → Type 0) (once : IsOnce P) (s : ShardState) (own : s.part
   quiet_step : (w : Happening) → ((q : Part) (a : Msg) → EventAtLeast q w a)
       → StepAlone P s w (stepped None (quiet t))
   quiet_step w any = from P s w msg.Nudge t None (quiet t) goes (λ q a h.
-      any q a) (quiet_alone P t msg.Nudge t.part (same_goes P t.part) none)
+      any q a) tt (quiet_alone P t msg.Nudge t.part (same_goes P t.part) none)
 
   happens : (w : Happening) → EventAlone w → NamesBy P w → StepAlone P s w (happened t w)
   happens (what.Deliver e) alone named =
+      let h = ruled_alone P once (met t e) (goes.shard ∙ own) (goes.sessions.named all) none e.from
+      e.msg alone named in
       from P s (what.Deliver e) e.msg (met t e) (ceiling_of t e) (ruled (met t e) e.from e.msg) goes
-      (λ q a h. h)
-      (ruled_alone P once (met t e) (goes.shard ∙ own) (goes.sessions.named all) none e.from e.msg
-      alone named)
+      (λ q a k. k) h.asked h
   happens (what.Client conn frame) alone named = quiet_step (what.Client conn frame) (λ q a. tt)
   happens (what.Gone conn) alone named = quiet_step (what.Gone conn) (λ q a. tt)
   happens what.Resend alone named = from P s what.Resend msg.Nudge t None (on_resend t) goes (λ q a
-      h. tt) (resend_alone P t msg.Nudge none)
+      h. tt) tt (resend_alone P t msg.Nudge none)
   happens what.Moment alone named = quiet_step what.Moment (λ q a. tt)
 
   told_step : (e : Envelope) (w : Option Wanting) → WantAlone t.part e.msg w
@@ -145,7 +154,7 @@ module _ (P : Named → Type 0) (once : IsOnce P) (s : ShardState) (own : s.part
       IfStep (StepAlone P s (what.Deliver e)) (option_map (stepped (ceiling_of t e)) r))
       (Some (told_memory (met t e) w)) None
       (from P s (what.Deliver e) e.msg (met t e) (ceiling_of t e) (told_memory (met t e) w) goes
-      (λ q a k. k)
+      (λ q a k. k) tt
       (let q = (told_memory (met t e) w).core.part in says_alone P (met t e) e.msg q w.letter
       (memory_goes P t.part w.lsid w.tag) none h.0 (h.1 q))) tt
 

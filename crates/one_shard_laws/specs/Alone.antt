@@ -4,6 +4,7 @@ use Rattle.txn_types.specs.declared.cause.Cause.{Cause}
 use Rattle.txn_types.specs.declared.cause.Cause.TheVariants as cause
 use Rattle.txn_types.specs.declared.event.Happening.{Happening}
 use Rattle.txn_types.specs.declared.event.Happening.TheVariants as what
+use Rattle.txn_types.specs.declared.message.Commit.{Commit}
 use Rattle.txn_types.specs.declared.message.Envelope.{Envelope}
 use Rattle.txn_types.specs.declared.message.Msg.{Msg}
 use Rattle.txn_types.specs.declared.message.Msg.TheVariants as msg
@@ -56,6 +57,16 @@ RecHeld P p q last (rec.Commit tag lsid number read_at at writes) =
     × HasNumber p lsid number × AtLeast q.sessions lsid number × (at ≤ last)
 RecHeld P p q last other = ⊥
 
+-- the message asks for the commit that is recorded, in this boot
+abbrev pub AsksFor : Msg → ℕ → Rec → Type 0
+AsksFor m boot (rec.Commit tag lsid number read_at at writes) =
+    (c : Commit) × (m ≡ msg.Commit c) × (c.tag ≡ tag) × (c.boot ≡ boot)
+AsksFor m boot other = ⊥
+
+abbrev pub EventAsksFor : Happening → ℕ → Rec → Type 0
+EventAsksFor (what.Deliver e) boot r = AsksFor e.msg boot r
+EventAsksFor other boot r = ⊥
+
 -- Where a statement is done, or refused by its meaning, its session has its number, or has gone on.
 
 abbrev pub IsMeant : Cause → Type 0
@@ -83,14 +94,15 @@ abbrev pub EventAtLeast : Part → Happening → Msg → Type 0
 EventAtLeast q (what.Deliver e) answer = ServedAtLeast q e.msg answer
 EventAtLeast q other answer = Unit {0}
 
--- A step: sessions go on; nothing is coordinated; what is recorded is a commit; and nothing is sent
--- of a commit of several shards.
+-- A step: sessions go on; nothing is coordinated; what is recorded is the commit that its message
+-- asks for; and nothing is sent of a commit of several shards.
 pub record StepAlone (P : Named → Type 0) (s : ShardState) (w : Happening)
     (o : CoreStep) : Type 0 where
   pub goes : GoesOn P s.part o.core.part
   pub coord : o.core.coord ≡ []
   pub rec : IfSome o.rec
       (λ (r : Rec). (p : Part) × GoesOn P s.part p × RecHeld P p o.core.part o.core.clock.last r)
+  pub asked : IfSome o.rec (EventAsksFor w o.core.part.boot)
   pub out : All (λ (e : Envelope). IsAlone e.msg) (given_out o.answer)
   pub served : All (λ (e : Envelope). EventAtLeast o.core.part w e.msg) (given_out o.answer)
 

@@ -40,9 +40,10 @@ pub fn each_run_of_one_shard_keeps_it()
 
 /// After each run of one shard that begins on a new disk: the first committer wins, and each
 /// transaction commits once; what several shards would decide is right, as there is none; and the
-/// statements that were served were told what they mean over the commits as they are now, each
-/// commit holds what its transaction's statements wrote, and each Answer that was sent tells of
-/// them.
+/// statements that were served were sent, in the order of their transactions, and were told what
+/// they mean over the commits as they are now; each commit was asked for in the boot in which its
+/// transaction ran, and holds what its statements wrote there; and each Answer that was sent tells
+/// of a statement that was served in the boot that it names.
 pub fn what_happens_on_one_shard_is_right()
     ensures first_committer { (chunks : Map) (start : Nodes) (run : List Ran) (trace : List Nodes)
         (now : Nodes) → StartsAlone chunks start → IsTrace start run trace now

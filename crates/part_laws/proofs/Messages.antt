@@ -185,6 +185,7 @@ module _ (p : Part) (last : ℕ) (entries : List Entry) (served : List Served) (
                 h.1 refl (tick_above wall at time) later),
             live_same p opens last entries served part m.lsid s is live,
           )),
+      (part.sound.opened s.tag (opened_of p.boot o) h.1).wrote,
     )
 
     -- without a write nothing of it is in the store

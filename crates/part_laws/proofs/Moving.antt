@@ -129,12 +129,13 @@ module _ (p q : Part) (old new : Opens) (lsid : Lsid) (s : Session) (o : Option 
       (sym (moves.sessions a ia) ∙ ha) (sym (moves.sessions b ib) ∙ hb) ot ou same
 
   kept_more : (told : List Served) → ((x : Served) → Among x served → Among x told) → (o : Open)
-      → IsKept served o → IsKept told o
-  kept_more told more o h = (h.0, more h.0 h.1, h.2, h.3, h.4, h.5)
+      → IsKept p.boot served o → IsKept p.boot told o
+  kept_more told more o h = (h.0, more h.0 h.1, h.2, h.3, h.4, h.5, h.6)
 
   kept_case : (told : List Served) → ((x : Served) → Among x served → Among x told)
-      → ((mine : Open) → o ≡ Some mine → IsKept told mine) → (other : Lsid) (mine : Open) (b : Bool)
-      → same_lsid other lsid ≡ b → open_of q other ≡ Some mine → IsKept told mine
+      → ((mine : Open) → o ≡ Some mine → IsKept p.boot told mine)
+      → (other : Lsid) (mine : Open) (b : Bool)
+      → same_lsid other lsid ≡ b → open_of q other ≡ Some mine → IsKept p.boot told mine
   kept_case told more own other mine true is there =
       own mine (sym moves.live ∙ ap (open_of q) (sym (lsid_same other lsid is)) ∙ there)
   kept_case told more own other mine false is there =
@@ -142,23 +143,23 @@ module _ (p q : Part) (old new : Opens) (lsid : Lsid) (s : Session) (o : Option 
 
   refused_case : (told : List Served) → ((x : Served) → Among x served → Among x told)
       → ((err : OpErr) (at : ℕ) → s.state ≡ state.Aborted (cause.Statement err) at
-      → IsRefusedBy told s.tag err at)
+      → IsRefusedBy p.boot told s.tag err at)
       → (other : Lsid) (t : Session) (err : OpErr) (at : ℕ) (b : Bool) → same_lsid other lsid ≡ b
       → session q other ≡ Some t → t.state ≡ state.Aborted (cause.Statement err) at
-      → IsRefusedBy told t.tag err at
+      → IsRefusedBy p.boot told t.tag err at
   refused_case told more own other t err at true is there st =
       let mine : s ≡ t = some_same (session q lsid) s t moves.own (ap (session q)
       (sym (lsid_same other lsid is)) ∙ there) in
-      subst (λ tag. IsRefusedBy told tag err at) (ap (λ (z : Session). z.tag) mine)
+      subst (λ tag. IsRefusedBy p.boot told tag err at) (ap (λ (z : Session). z.tag) mine)
       (own err at (ap (λ (z : Session). z.state) mine ∙ st))
   refused_case told more own other t err at false is there st =
       let h = part.refusals other t err at (sym (moves.sessions other is) ∙ there) st in
-      (h.0, more h.0 h.1, h.2, h.3, h.4)
+      (h.0, more h.0 h.1, h.2, h.3, h.4, h.5)
 
   pub moved : (later : ℕ) (commits : List Entry) (told : List Served) → ((x : Served)
-      → Among x served → Among x told) → ((mine : Open) → o ≡ Some mine → IsKept told mine)
+      → Among x served → Among x told) → ((mine : Open) → o ≡ Some mine → IsKept p.boot told mine)
       → ((err : OpErr) (at : ℕ) → s.state ≡ state.Aborted (cause.Statement err) at
-      → IsRefusedBy told s.tag err at) → IsSound q.store new later commits told
+      → IsRefusedBy p.boot told s.tag err at) → IsSound q.store new later commits told
       → IsServing q new later commits told
   moved later commits told more own refused sound =
       record {
@@ -166,10 +167,11 @@ module _ (p q : Part) (old new : Opens) (lsid : Lsid) (s : Session) (o : Option 
         rises = moves.rises;
         sessions = λ other. subst (λ boot. AtSession boot new (session q other) (open_of q other))
             (sym moves.boot) (sessions_case other (same_lsid other lsid) refl);
-        kept = λ other mine there. kept_case told more own other mine (same_lsid other
-            lsid) refl there;
-        refusals = λ other t err at there st. refused_case told more refused other t err at
-            (same_lsid other lsid) refl there st;
+        kept = λ other mine there. subst (λ boot. IsKept boot told mine) (sym moves.boot)
+            (kept_case told more own other mine (same_lsid other lsid) refl there);
+        refusals = λ other t err at there st. subst (λ boot. IsRefusedBy boot told t.tag err at)
+            (sym moves.boot) (refused_case told more refused other t err at (same_lsid other lsid)
+            refl there st);
         held = λ tag x is. held_by tag x (moves.held tag x is);
         alone = λ a b t u ha hb ot ou same. alone_case a b t u (same_lsid a lsid) (same_lsid b lsid)
             refl refl ha hb ot ou same;

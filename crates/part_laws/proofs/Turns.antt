@@ -122,7 +122,7 @@ elsewhere_case lsid tag other t entry found true is apart same none more there =
     (sym (lsid_same other entry.0 is)) ∙ apart) (let one : entry.1 ≡ t = cc in one) same
 elsewhere_case lsid tag other t entry found false is apart same none more there = more there
 
-elsewhere_all : (lsid : Lsid) (tag : Tag) (entries : BySession Session)
+pub elsewhere_all : (lsid : Lsid) (tag : Tag) (entries : BySession Session)
     → list_any (λ (entry : Lsid × Session). not (same_lsid entry.0 lsid) && same_tag entry.1.tag tag
     && is_open entry.1.state) entries ≡ false
     → (other : Lsid) (t : Session) → same_lsid other lsid ≡ false → entry_of other entries ≡ Some t
@@ -189,7 +189,7 @@ module _ (p : Part) (opens : Opens) (last : ℕ) (entries : List Entry)
   IsOpenLive = (t : Session) → session p m.lsid ≡ Some t → is_open t.state ≡ true
       → t.state ≡ state.Live
 
-  same_turn : (said : Said) → IsAnswered served m said
+  same_turn : (said : Said) → IsAnswered p.boot served m said
       → Turned p opens last entries served m (said, p)
   same_turn said answered = record {
     told = served;
@@ -222,7 +222,7 @@ module _ (p : Part) (opens : Opens) (last : ℕ) (entries : List Entry)
       → ((boot : ℕ) (os : Opens) (tag : Tag) → AtState boot os tag st None) → IsOpenLive
       → (told : List Served) → ((x : Served) → Among x served → Among x told)
       → ((err : OpErr) (n : ℕ) → st ≡ state.Aborted (cause.Statement err) n
-      → IsRefusedBy told m.tag err n) → IsSound p.store opens last entries told
+      → IsRefusedBy p.boot told m.tag err n) → IsSound p.store opens last entries told
       → (o : Option Open) → open_of p m.lsid ≡ o
       → Holds opens (rules.stands (closed p m.lsid o) m st) last entries told
   refuse_case st shut at free told more refused sound None none =
@@ -299,7 +299,7 @@ module _ (p : Part) (opens : Opens) (last : ℕ) (entries : List Entry)
       → is_open t.state ≡ true → (new t.tag ≡ opens t.tag) × (m.tag ≡ t.tag → ⊥))
       → ((tag : Tag) (x : Opened) → new tag ≡ Some x
       → (m.tag ≡ tag) ⊎ ((opens tag ≡ Some x) × NotHeld tag))
-      → (told : List Served) → ((x : Served) → Among x served → Among x told) → IsKept told o
+      → (told : List Served) → ((x : Served) → Among x served → Among x told) → IsKept p.boot told o
       → IsSound store new last entries told → SamePrepared opens new
       → Holds opens (record (rules.stands p m state.Live)
       { live = put lsid_cmp m.lsid o live; store = store }) last entries told
@@ -324,7 +324,7 @@ module _ (p : Part) (opens : Opens) (last : ℕ) (entries : List Entry)
       } in (
         new,
         moved p q opens new m.lsid s (Some o) moves last entries served part last entries
-            told more (λ one is. let same : o ≡ one = cc in subst (IsKept told) same kept)
+            told more (λ one is. let same : o ≡ one = cc in subst (IsKept p.boot told) same kept)
             (λ err n h. cc) sound,
         prepared,
       )
@@ -399,9 +399,9 @@ module _ (p : Part) (opens : Opens) (last : ℕ) (entries : List Entry)
     runs : Runs p.boot at (opens m.tag)
     behind : at ≤ last
     free : IsOpenLive
-    anew : IsAnew p m
+    anew : IsAnew p m at
     done : (reply : OpReply) (writes : List Write) (told : List Served) → ((x : Served)
-        → Among x served → Among x told) → IsKept told (rules.opened wall m at mine reply writes)
+        → Among x served → Among x told) → IsKept p.boot told (rules.opened wall m at mine reply writes)
         → IsSound (with_writes m.tag p.store writes) (with_opened m.tag
         (Some (running p.boot at (opens m.tag) writes)) opens) last entries told
         → Holds opens (rules.with_open (rules.made_room p m mine) m
@@ -426,7 +426,7 @@ module _ (p : Part) (opens : Opens) (last : ℕ) (entries : List Entry)
           behind = (part.sound.opened m.tag (opened_of p.boot o) mine_is).reads;
           free = λ t found still. ap (λ (z : Session). z.state) (one_some (session p m.lsid) t s
               found is) ∙ live;
-          anew = (comes.alone, inr (o, there, (live_tag o s there is live).0 ∙ same, newer, boot));
+          anew = (comes.alone, inr (o, there, (live_tag o s there is live).0 ∙ same, newer, boot, refl));
           done = λ reply writes told more kept sound.
               let x : Option Opened = Some (running p.boot o.read_at (opens m.tag) writes) in
               let new = with_opened m.tag x opens in
@@ -454,6 +454,15 @@ module _ (p : Part) (opens : Opens) (last : ℕ) (entries : List Entry)
   read_behind true = omega arith
   read_behind false = comes.reads
 
+  named_case : (b : Bool) → nat_eq m.read_at 0 ≡ b
+      → (m.read_at ≡ 0) ⊎ ((if b then last else m.read_at) ≡ m.read_at)
+  named_case true is = inl (same_boot m.read_at 0 is)
+  named_case false is = inr refl
+
+  -- the moment that it names, if it names one
+  reads_named : (m.read_at ≡ 0) ⊎ (rules.read_time last m ≡ m.read_at)
+  reads_named = named_case (nat_eq m.read_at 0) refl
+
   held_where : (by : HeldBy p m.tag) (b : Bool) → same_lsid by.0 m.lsid ≡ b
       → ((t : Session) → session p m.lsid ≡ Some t → t.tag ≡ m.tag → ⊥) → ⊥
   held_where by true here other =
@@ -468,7 +477,7 @@ module _ (p : Part) (opens : Opens) (last : ℕ) (entries : List Entry)
   none_case (Some x) is other = let by = part.held m.tag x is in
       absurd (held_where by (same_lsid by.0 m.lsid) refl other)
 
-  module _ (wall : ℕ) (free : IsOpenLive) (begins : Begins p m) where
+  module _ (wall : ℕ) (free : IsOpenLive) (begins : Begins p m (rules.read_time last m)) where
     other_tag : (t : Session) → session p m.lsid ≡ Some t → t.tag ≡ m.tag → ⊥
     other_tag t found = never_same t.tag m.tag (begins.1 t found).1
 
@@ -482,7 +491,7 @@ module _ (p : Part) (opens : Opens) (last : ℕ) (entries : List Entry)
         ∙ elsewhere_all m.lsid m.tag p.sessions.entries comes.alone other t away found one in cc
 
     done_new : (at : ℕ) (reply : OpReply) (writes : List Write) (told : List Served) → ((x : Served)
-        → Among x served → Among x told) → IsKept told (rules.opened wall m at None reply writes)
+        → Among x served → Among x told) → IsKept p.boot told (rules.opened wall m at None reply writes)
         → IsSound (with_writes m.tag p.store writes) (with_opened m.tag
         (Some (running p.boot at (opens m.tag) writes)) opens) last entries told
         → (found : Option Open) → open_of p m.lsid ≡ found
@@ -578,17 +587,18 @@ module _ (p : Part) (opens : Opens) (last : ℕ) (entries : List Entry)
   more_one s x h = inr h
 
   same_refusal : (err e : OpErr) (at n : ℕ) (s : Served)
-      → s.tag ≡ m.tag → (s.read_at ≡ at) × (s.meaning ≡ Err err)
+      → s.tag ≡ m.tag → (s.read_at ≡ at) × (s.meaning ≡ Err err) → s.life ≡ p.boot
       → state.Aborted (cause.Statement err) at ≡ state.Aborted (cause.Statement e) n
-      → IsRefusedBy (s ∷ served) m.tag e n
-  same_refusal err e at n s tagged told h =
+      → IsRefusedBy p.boot (s ∷ served) m.tag e n
+  same_refusal err e at n s tagged told life h =
       let time : at ≡ n = cc in
       let one : err ≡ e = cc in
-      (s, inl refl, tagged, told.0 ∙ time, told.1 ∙ ap Err one)
+      (s, inl refl, tagged, told.0 ∙ time, told.1 ∙ ap Err one, life)
 
   module _ (wall at : ℕ) (mine : Option Open) (ready : Ready wall at mine) where
     refuse_turn : (why : Cause) (read_at : ℕ)
-        → ((err : OpErr) → why ≡ cause.Statement err → ⊥) → IsRefusedAs served m why read_at
+        → ((err : OpErr) → why ≡ cause.Statement err → ⊥)
+        → IsRefusedAs (rules.refuses p m why read_at).1.boot served m why read_at
         → Turned p opens last entries served m (rules.refuses p m why read_at)
     refuse_turn why read_at other answered =
         record {
@@ -609,7 +619,7 @@ module _ (p : Part) (opens : Opens) (last : ℕ) (entries : List Entry)
         record {
           told = s ∷ served;
           holds = ready.done reply writes (s
-              ∷ served) (more_one s) (s, inl refl, refl, refl, refl, refl)
+              ∷ served) (more_one s) (s, inl refl, refl, refl, refl, refl, refl)
               (does p.store opens last entries served part.sound m.tag p.boot m.k at m.op ready.runs
               comes.fresh ready.behind rows reply writes is means clear);
           grows = inr (
@@ -621,7 +631,7 @@ module _ (p : Part) (opens : Opens) (last : ℕ) (entries : List Entry)
             ready.anew,
             does_lives wall at mine reply writes (own_of (opens m.tag)),
           );
-          answered = (s, inl refl, refl, refl, refl, refl);
+          answered = (s, inl refl, refl, refl, refl, refl, room_boot mine);
         }
 
     clear_turn : (rows : List Row) (reply : OpReply) (writes : List Write) (c : Option (Id × By))
@@ -646,7 +656,7 @@ module _ (p : Part) (opens : Opens) (last : ℕ) (entries : List Entry)
           told = s ∷ served;
           holds = refuse_case (state.Aborted (cause.Statement err) at) refl (λ boot os tag.
               refl) ready.free (s ∷ served) (more_one s) (λ e n h.
-              same_refusal err e at n s refl (refl, refl) h)
+              same_refusal err e at n s refl (refl, refl) refl h)
               (refuses p.store opens last entries served part.sound m.tag p.boot m.k at
               m.op ready.runs comes.fresh ready.behind rows (Err err) is means refl)
               (open_of p m.lsid) refl;
@@ -659,7 +669,7 @@ module _ (p : Part) (opens : Opens) (last : ℕ) (entries : List Entry)
             ready.anew,
             λ lsid o there. inl (left_lives lsid o there),
           );
-          answered = (s, inl refl, refl, refl, refl);
+          answered = (s, inl refl, refl, refl, refl, closed_boot (open_of p m.lsid));
         }
     meant_turn rows (Ok done) is means =
         clear_turn rows done.0 done.1 (conflict p.store at m.tag done.1) is means refl
@@ -676,7 +686,7 @@ module _ (p : Part) (opens : Opens) (last : ℕ) (entries : List Entry)
 
   -- The rules 1 to 5.
 
-  refused_turn : (why : Cause) → IsRefusedAs served m why 0
+  refused_turn : (why : Cause) → IsRefusedAs p.boot served m why 0
       → Turned p opens last entries served m (rules.refused p why)
   refused_turn why answered = same_turn (Refused why 0) answered
 
@@ -692,6 +702,7 @@ module _ (p : Part) (opens : Opens) (last : ℕ) (entries : List Entry)
           kept.3 ∙ sym k,
           kept.4,
           kept.5,
+          kept.6,
         )
 
     gone_case : (lsid : Lsid) (o : Open) (b : Bool) → same_lsid lsid m.lsid ≡ b
@@ -702,7 +713,7 @@ module _ (p : Part) (opens : Opens) (last : ℕ) (entries : List Entry)
     gone_case lsid o false apart there = sym (entry_without lsid m.lsid apart p.live) ∙ there
 
     gone_turn : (live : s.state ≡ state.Live) (why : Cause)
-        → ((err : OpErr) → why ≡ cause.Statement err → ⊥) → IsRefusedAs served m why 0
+        → ((err : OpErr) → why ≡ cause.Statement err → ⊥) → IsRefusedAs p.boot served m why 0
         → Turned p opens last entries served m (Refused why 0, aborted p m.lsid s why)
     gone_turn live why other answered = record {
       told = served;
@@ -737,9 +748,10 @@ module _ (p : Part) (opens : Opens) (last : ℕ) (entries : List Entry)
     on_turn None there live = same_turn Late tt
     on_turn (Some o) there live = number_turn o (nat_eq m.k o.k) refl there live
 
-    told_again : (why : Cause) (n : ℕ) → s.state ≡ state.Aborted why n → IsRefusedAs served m why n
+    told_again : (why : Cause) (n : ℕ) → s.state ≡ state.Aborted why n
+        → IsRefusedAs p.boot served m why n
     told_again (cause.Statement err) n st = let h = part.refusals m.lsid s err n is st in
-        (h.0, h.1, h.2 ∙ same, h.3, h.4)
+        (h.0, h.1, h.2 ∙ same, h.3, h.4, h.5)
     told_again other n st = tt
 
     later_turn : (st : SessionState) → s.state ≡ st
@@ -751,20 +763,21 @@ module _ (p : Part) (opens : Opens) (last : ℕ) (entries : List Entry)
     later_turn (state.Aborted why read_at) live =
         same_turn (Refused why read_at) (told_again why read_at live)
 
-  begin_turn : (wall : ℕ) → IsOpenLive → Begins p m
+  begin_turn : (wall : ℕ) → IsOpenLive → Begins p m (rules.read_time last m)
       → Turned p opens last entries served m (rules.begins p last wall m)
   begin_turn wall free begins =
       performed_turn wall (rules.read_time last m) None (ready_new wall free begins)
 
   module _ (wall : ℕ) (s : Session) (is : session p m.lsid ≡ Some s)
       (kept : is_replaced s m.number m.tag ≡ false) (differ : same_tag s.tag m.tag ≡ false) where
-    begins : m.boot ≡ 0 → Begins p m
+    begins : m.boot ≡ 0 → Begins p m (rules.read_time last m)
     begins none = (
       none,
       λ t found. let one : s ≡ t = one_some (session p m.lsid) s t is found in (
         subst (λ (x : Session). is_replaced x m.number m.tag ≡ false) one kept,
         subst (λ (x : Session). same_tag x.tag m.tag ≡ false) one differ,
       ),
+      reads_named,
     )
 
     free_from : (st : SessionState) → s.state ≡ st → (is_open st ≡ true → st ≡ state.Live)
@@ -798,8 +811,11 @@ module _ (p : Part) (opens : Opens) (last : ℕ) (entries : List Entry)
       either_is (nat_eq m.boot 0) (Turned p opens last entries served m) _ _
       (λ boot. either (is_full p.sessions) (Turned p opens last entries served m) _ _
       (refused_turn cause.TooManySessions tt)
-      (begin_turn wall (λ t found still. let wrong : None ≡ Some t = sym none ∙ found in cc)
-      (same_boot m.boot 0 boot, λ t found. let wrong : None ≡ Some t = sym none ∙ found in cc)))
+      (begin_turn wall (λ t found still. let wrong : None ≡ Some t = sym none ∙ found in cc) (
+        same_boot m.boot 0 boot,
+        (λ t found. let wrong : None ≡ Some t = sym none ∙ found in cc),
+        reads_named,
+      )))
       (λ some. refused_turn (cause.Unavailable m.boot p.boot) tt)
 
   tag_turn : (wall : ℕ) (s : Session) (b : Bool) → is_replaced s m.number m.tag ≡ false

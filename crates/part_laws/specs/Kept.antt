@@ -4,21 +4,24 @@ use Rattle.txn_types.specs.declared.message.Decide.{Decide}
 use Rattle.txn_types.specs.declared.names.Tag.{Tag}
 use Rattle.txn_types.specs.declared.write.Write.{Write}
 use Rattle.txn_semantics.specs.declared.commits.Entry.{Entry}
+use Rattle.txn_semantics.specs.Writes.{write_set}
 use Rattle.journal_rec.specs.declared.record.Rec.{Rec}
 use Rattle.journal_rec.specs.declared.record.Rec.TheVariants as rec
 use Rattle.session_table.specs.Sessions.{commit_time}
 use Rattle.participant.specs.Part.{Part, Change}
 use Rattle.part_laws.specs.Each.{Each}
-use Rattle.part_laws.specs.Sound.{Opened, Opens, Served}
+use Rattle.part_laws.specs.Sound.{Opened, Opens, Served, written}
 use Rattle.part_laws.specs.Parts.{IsServing, SameBut, Holds}
 
--- a commit's record adds its entry to the commits, by its time
+-- a commit's record adds its entry to the commits, by its time; and it holds what the statements of
+-- its transaction wrote in this boot
 abbrev pub Enters : Opens → Part → ℕ → List Entry → List Served → Rec → Type 0
 Enters old q last entries served (rec.Commit tag lsid number read_at at writes) =
     (last < at)
     × ((before behind : List Entry) → entries ≡ before ++ behind → Each (λ e. at ≤ e.at) behind
     → Holds old q at (before ++ record { tag = tag; read_at = read_at; at = at; writes = writes }
     ∷ behind) served)
+    × (writes ≡ write_set (written tag q.boot served))
 Enters old q last entries served other = ⊥
 
 abbrev pub CommitsBy : Opens → Part → ℕ → ℕ → List Entry → List Served → Option Rec → Type 0

@@ -49,24 +49,25 @@ abbrev pub HeldBy : Part → Tag → Type 0
 HeldBy p tag = (lsid : Lsid) × (s : Session) × (session p lsid ≡ Some s) × (s.tag ≡ tag)
     × (is_open s.state ≡ true)
 
--- what a live transaction's newest statement was answered, a served statement of it was told
-abbrev pub IsKept : List Served → Open → Type 0
-IsKept served o = (s : Served) × Among s served × (s.tag ≡ o.tag) × (s.k ≡ o.k)
-    × (s.read_at ≡ o.read_at) × (reply_of s.meaning ≡ Ok o.reply)
+-- what a live transaction's newest statement was answered, a served statement of it was told, in
+-- this boot
+abbrev pub IsKept : ℕ → List Served → Open → Type 0
+IsKept boot served o = (s : Served) × Among s served × (s.tag ≡ o.tag) × (s.k ≡ o.k)
+    × (s.read_at ≡ o.read_at) × (reply_of s.meaning ≡ Ok o.reply) × (s.life ≡ boot)
 
--- a statement of this transaction was served, and its meaning refused it so
-abbrev pub IsRefusedBy : List Served → Tag → OpErr → ℕ → Type 0
-IsRefusedBy served tag err at = (s : Served) × Among s served × (s.tag ≡ tag) × (s.read_at ≡ at)
-    × (s.meaning ≡ Err err)
+-- a statement of this transaction was served in this boot, and its meaning refused it so
+abbrev pub IsRefusedBy : ℕ → List Served → Tag → OpErr → ℕ → Type 0
+IsRefusedBy boot served tag err at = (s : Served) × Among s served × (s.tag ≡ tag)
+    × (s.read_at ≡ at) × (s.meaning ≡ Err err) × (s.life ≡ boot)
 
 pub record IsServing (p : Part) (opens : Opens) (last : ℕ) (entries : List Entry)
     (served : List Served) : Type 0 where
   pub sound : IsSound p.store opens last entries served
   pub rises : Rises lsid_cmp p.live
   pub sessions : (lsid : Lsid) → AtSession p.boot opens (session p lsid) (open_of p lsid)
-  pub kept : (lsid : Lsid) (o : Open) → open_of p lsid ≡ Some o → IsKept served o
+  pub kept : (lsid : Lsid) (o : Open) → open_of p lsid ≡ Some o → IsKept p.boot served o
   pub refusals : (lsid : Lsid) (s : Session) (err : OpErr) (at : ℕ) → session p lsid ≡ Some s
-      → s.state ≡ Aborted (cause.Statement err) at → IsRefusedBy served s.tag err at
+      → s.state ≡ Aborted (cause.Statement err) at → IsRefusedBy p.boot served s.tag err at
   pub held : (tag : Tag) (o : Opened) → opens tag ≡ Some o → HeldBy p tag
   pub alone : (a b : Lsid) (s t : Session) → session p a ≡ Some s → session p b ≡ Some t
       → is_open s.state ≡ true → is_open t.state ≡ true → s.tag ≡ t.tag → a ≡ b

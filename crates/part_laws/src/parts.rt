@@ -27,7 +27,8 @@ ghost use Rattle.part_laws.specs.Turned.{Turned, Comes};
 ghost use Rattle.part_laws.specs.Start.{first_part, none_open, prepared_ones, Restarts};
 
 /// A statement leaves what holds of the part, with itself among what was served where it was done
-/// or its meaning refused it, and nothing else there; and what is said to be done was served so.
+/// or its meaning refused it, and nothing else there; and what is said to be done was served so, in
+/// this boot.
 pub fn a_statement_is_right()
     ensures { (p : Part) (opens : Opens) (last : ℕ) (entries : List Entry) (served : List Served)
         → IsServing p opens last entries served
@@ -35,8 +36,8 @@ pub fn a_statement_is_right()
         → Turned p opens last entries served m (statement p last wall m) }
 {}
 
-/// A commit leaves it, with the entry of its record among the commits; without a record with the
-/// same commits.
+/// A commit leaves it, with the entry of its record among the commits, which holds what its
+/// transaction's statements wrote in this boot; without a record with the same commits.
 pub fn a_commit_is_right()
     ensures { (p : Part) (last : ℕ) (entries : List Entry) (served : List Served) (opens : Opens)
         → IsServing p opens last entries served

@@ -5,3 +5,4 @@ pub mod Ruling
 pub mod Stepping
 pub mod Starting
 pub mod Crashing
+pub mod Ending

@@ -56,6 +56,8 @@ use Rattle.serving_laws.specs.Coming.{MsgComes}
 use Rattle.serving_laws.specs.Telling.{TellsRefusal, AnswersTo, IsToldBy}
 use Rattle.serving_laws.specs.Left.{NoneButCoord, NoneButDecided, LeftBy}
 use Rattle.serving_laws.proofs.Turning.{new_turns}
+use Rattle.serving_laws.proofs.Ending.{none_same, gone, commit_none, prepare_none, decide_none}
+use Rattle.serving_laws.proofs.Ending.{abort_none, recover_none}
 use Rattle.serving_laws.proofs.Lists.{nothing, one, each}
 
 -- What a rule leaves, and what its letters tell.
@@ -67,9 +69,9 @@ InTold told l = IsToldBy told l.1
 abbrev pub GrowsAs : Part → Part → Msg → List Served → List Served → List Letter
     → Option Held → Type 0
 GrowsAs p q (msg.Statement m) served told out held = ((told ≡ served) × NoneBegins p q)
-    ⊎ ((x : Served) × (told ≡ x ∷ served) × IsOf m x × (x.life ≡ q.boot) × IsAnew p m
+    ⊎ ((x : Served) × (told ≡ x ∷ served) × IsOf m x × (x.life ≡ q.boot) × IsAnew p m x.read_at
     × LivesFor p q m.lsid x × (held ≡ None) × ((l : Letter) × (out ≡ l ∷ []) × AnswersTo x l.1))
-GrowsAs p q other served told out held = told ≡ served
+GrowsAs p q other served told out held = (told ≡ served) × NoneBegins p q
 
 pub record RuleServes (before : Part) (old : Opens) (last : ℕ) (entries : List Entry)
     (served : List Served) (m : Msg) (r : Ruled) : Type 0 where
@@ -141,7 +143,8 @@ answers_refusal m x (cause.WriteConflict id by) at h = absurd h
 answers_refusal m x other at h = absurd h
 
 refused_there : (s : ShardState) (to : NodeId) (m : Statement) (told : List Served) (why : Cause)
-    (at : ℕ) → IsRefusedAs told m why at → InTold told (participating.answer s to m at (Err why))
+    (at : ℕ) → IsRefusedAs s.part.boot told m why at
+    → InTold told (participating.answer s to m at (Err why))
 refused_there s to m told (cause.Statement err) at h = h
 refused_there s to m told other at h = tt
 
@@ -149,7 +152,8 @@ module _ (s : ShardState) (to : NodeId) (m : Statement) (opens : Opens) (entries
     (served : List Served) where
   grown : (before : Part) (told : List Served) (said : Said) → ((told ≡ served)
       × NoneBegins before s.part) ⊎ ((x : Served) × (told ≡ x ∷ served) × IsOf m x
-      × (x.life ≡ s.part.boot) × IsTold said x × IsAnew before m × LivesFor before s.part m.lsid x)
+      × (x.life ≡ s.part.boot) × IsTold said x × IsAnew before m x.read_at
+      × LivesFor before s.part m.lsid x)
       → GrowsAs before (answers s to m said).core.part (msg.Statement m) served told
       (answers s to m said).out (answers s to m said).held
   grown before told (Did at reply wrote) (inl h) = inl h
@@ -190,7 +194,7 @@ module _ (s : ShardState) (to : NodeId) (m : Statement) (opens : Opens) (entries
       )
   grown before told Late (inr h) = absurd h.4
 
-  told_out : (told : List Served) (said : Said) → IsAnswered told m said
+  told_out : (told : List Served) (said : Said) → IsAnswered s.part.boot told m said
       → All (InTold told) (answers s to m said).out
   told_out told (Did at reply wrote) h = one (InTold told) _ h
   told_out told (Blocked held) h = nothing (InTold told)
@@ -225,20 +229,22 @@ module _ (s : ShardState) (opens : Opens) (entries : List Entry) (served : List 
   record Rests (r : Ruled) : Type 0 where
     holds : Holds opens r.core.part r.core.clock.last entries served
     recorded : NoneButCoord r.rec
+    none : NoneBegins s.part r.core.part
     out : All IsSilent r.out
 
   same : Holds opens s.part s.clock.last entries served
   same = same_holds s.part s.clock.last entries served opens part
 
   quiet_rests : Rests (quiet s)
-  quiet_rests = record { holds = same; recorded = tt; out = nothing IsSilent }
+  quiet_rests =
+      record { holds = same; recorded = tt; none = none_same s.part; out = nothing IsSilent }
 
   tells_rests : (router : ℕ) (tag : Tag) (t : Told) → Rests (tells s router tag t)
-  tells_rests router tag t = record { holds = same; recorded = tt; out = one IsSilent _ tt }
+  tells_rests router tag t = record { holds = same; recorded = tt; none = none_same s.part; out = one IsSilent _ tt }
 
   asks_rests : (router : ℕ) (tag : Tag) (c : Coordinated) (d : Option Decision)
       → Rests (asks s router tag c d)
-  asks_rests router tag c None = record { holds = same; recorded = tt; out = nothing IsSilent }
+  asks_rests router tag c None = record { holds = same; recorded = tt; none = none_same s.part; out = nothing IsSilent }
   asks_rests router tag c (Some d) = tells_rests router tag (told_of d)
 
   coordinated_rests : (router : ℕ) (tag : Tag) (c : Option Coordinated) (other : Ruled)
@@ -262,6 +268,7 @@ module _ (s : ShardState) (opens : Opens) (entries : List Entry) (served : List 
   starts_rests router m = record {
     holds = same;
     recorded = tt;
+    none = none_same s.part;
     out = each IsSilent (prepare_to s.part.shard m.tag (plan_of m)) m.parts (λ x. tt);
   }
 
@@ -274,6 +281,7 @@ module _ (s : ShardState) (opens : Opens) (entries : List Entry) (served : List 
         holds = abort_live s.part s.clock.last entries served opens part m.lsid own
             (cause.Unavailable m.boot s.part.boot) (λ err h. cc) is live;
         recorded = tt;
+        none = gone s.part part.rises m.lsid;
         out = one IsSilent _ tt;
       }
 
@@ -293,11 +301,12 @@ module _ (s : ShardState) (opens : Opens) (entries : List Entry) (served : List 
       own own.state is refl) (tells_rests router m.tag _)
 
   votes_on_rests : (m : Vote) (c : Coordinated) (d : Option Decision) → Rests (votes_on s m c d)
-  votes_on_rests m c None = record { holds = same; recorded = tt; out = nothing IsSilent }
+  votes_on_rests m c None = record { holds = same; recorded = tt; none = none_same s.part; out = nothing IsSilent }
   votes_on_rests m c (Some d) =
       record {
         holds = same;
         recorded = tt;
+        none = none_same s.part;
         out = All-append IsSilent _ _ (each IsSilent _ c.askers (λ x. tt)) (each IsSilent
             (decide_to m.tag c.plan d) c.plan.parts (λ x. tt));
       }
@@ -311,6 +320,7 @@ module _ (s : ShardState) (opens : Opens) (entries : List Entry) (served : List 
   acks_rests m (Some c) = record {
     holds = same;
     recorded = either (is_last_ack m.shard c) NoneButCoord (Some (rec.CoordEnd m.tag)) None tt tt;
+    none = none_same s.part;
     out = nothing IsSilent;
   }
 
@@ -320,14 +330,15 @@ module _ (s : ShardState) (opens : Opens) (entries : List Entry) (served : List 
   router_rests rule (Some n) h = h n
 
   rests : (m : Msg) (r : Ruled) → ((told : List Served) (out : List Letter) (held : Option Held)
-      → told ≡ served → GrowsAs s.part r.core.part m served told out held)
+      → (told ≡ served) × NoneBegins s.part r.core.part
+      → GrowsAs s.part r.core.part m served told out held)
       → ((q : Part) (later : ℕ) (recorded : Option Rec) → Holds opens q later entries served
       → NoneButCoord recorded → LeftBy opens q s.clock.last later entries served m recorded)
       → Rests r → RuleServes s.part opens s.clock.last entries served m r
   rests m r grows left h = record {
     told = served;
     left = left r.core.part r.core.clock.last r.rec h.holds h.recorded;
-    grows = grows served r.out r.held refl;
+    grows = grows served r.out r.held (refl, h.none);
     out = silent_out served r.out h.out;
   }
 
@@ -351,7 +362,7 @@ module _ (s : ShardState) (opens : Opens) (entries : List Entry) (served : List 
       record {
         told = served;
         left = commit_holds s.part s.clock.last entries served opens part s.wall m;
-        grows = refl;
+        grows = (refl, commit_none s.part part.rises s.clock.last s.wall m);
         out = silent_out served _ (outcome_silent s m.tag from
             (commit s.part s.clock.last s.wall m).told);
       }
@@ -362,6 +373,7 @@ module _ (s : ShardState) (opens : Opens) (entries : List Entry) (served : List 
       (either (coordinates s m.tag) Rests _ _ quiet_rests (record {
         holds = abort_holds s.part s.clock.last entries served opens part m;
         recorded = tt;
+        none = abort_none s.part part.rises m;
         out = nothing IsSilent;
       }))
   rule_serves from (msg.CommitTwo m) reads comes =
@@ -373,7 +385,7 @@ module _ (s : ShardState) (opens : Opens) (entries : List Entry) (served : List 
       record {
         told = served;
         left = prepare_holds s.part s.clock.last entries served opens part s.wall m;
-        grows = refl;
+        grows = (refl, prepare_none s.part part.rises s.clock.last s.wall m);
         out = silent_out served _ (vote_silent s m (prepare s.part s.clock.last s.wall m).told);
       }
   rule_serves from (msg.Vote m) reads comes = rests (msg.Vote m) _ (λ told out held h.
@@ -385,7 +397,7 @@ module _ (s : ShardState) (opens : Opens) (entries : List Entry) (served : List 
           decide_holds s.part s.clock.last entries served opens part m comes,
           only_decided (decide s.part m).0,
         );
-        grows = refl;
+        grows = (refl, decide_none s.part part.rises m);
         out = one (InTold served) _ tt;
       }
   rule_serves from (msg.Acked m) reads comes = rests (msg.Acked m) _ (λ told out held h.
@@ -397,8 +409,14 @@ module _ (s : ShardState) (opens : Opens) (entries : List Entry) (served : List 
       (recovers s router m) (record {
         holds = recover_holds s.part s.clock.last entries served opens part m;
         recorded = tt;
+        none = recover_none s.part part.rises m;
         out = one IsSilent _ tt;
       })))
   rule_serves from msg.Nudge reads comes =
       rests msg.Nudge _ (λ told out held h. h) (λ q later recorded h k. (h, k))
-      (record { holds = same; recorded = tt; out = resends_silent s.part.shard s.coord })
+      (record {
+        holds = same;
+        recorded = tt;
+        none = none_same s.part;
+        out = resends_silent s.part.shard s.coord;
+      })

@@ -20,21 +20,8 @@ use Rattle.txn_semantics.specs.declared.commits.Entry.{Entry}
 use Rattle.version_store.specs.declared.version.Held.{Held}
 use Rattle.journal_rec.specs.declared.record.Rec.{Rec}
 use Rattle.journal_rec.specs.declared.record.Rec.TheVariants as rec
-use Rattle.txn_types.specs.BySession.{entry_of}
-use Rattle.txn_types.specs.Order.{same_tag, same_lsid, lsid_cmp}
-use Rattle.txn_types.specs.declared.names.Tag.{Tag}
-use Rattle.txn_types.specs.declared.node.Lsid.{Lsid}
-use Rattle.txn_semantics.specs.Keyed.{taken_out, Rises}
-use Rattle.session_table.specs.declared.session.Session.{Session}
-use Rattle.session_table.specs.declared.session.SessionState.{SessionState}
-use Rattle.session_table.specs.declared.session.SessionState.TheVariants as state
-use Rattle.participant.specs.declared.said.Open.{Open}
-use Rattle.participant.specs.Memory.{ends_own, ends_session, ended_for_memory}
-use Rattle.participant.specs.Part.{Part, session, elsewhere}
-use Rattle.participant.proofs.Ends.{entry_without}
-use Rattle.participant.proofs.Tags.{lsid_same}
+use Rattle.participant.specs.Part.{Part, elsewhere}
 use Rattle.part_laws.specs.Turned.{NoneBegins}
-use Rattle.part_laws.proofs.Moving.{live_taken}
 use Rattle.participant.proofs.Cases.{either}
 use Rattle.part_laws.specs.Sound.{Opened, Opens, Served}
 use Rattle.part_laws.specs.Parts.{IsServing, Holds, HoldsBut, if_prepared, SamePrepared}
@@ -55,6 +42,7 @@ use Rattle.serving_laws.specs.Telling.{IsToldBy, GrowsBy, Grows}
 use Rattle.serving_laws.specs.Left.{LeftBy, Left, Enters, StepServes}
 use Rattle.serving_laws.proofs.Ruling.{InTold, GrowsAs, RuleServes, rule_serves, told_resends}
 use Rattle.serving_laws.proofs.Numbers.{expired_begins}
+use Rattle.serving_laws.proofs.Ending.{none_same, memory_none}
 use Rattle.serving_laws.proofs.Lists.{nothing, one}
 
 -- A message's times.
@@ -92,6 +80,7 @@ module _ (old mid : Opens) (same : SamePrepared old mid) where
     λ before behind split above. holds_from q at
         (before ++ record { tag = tag; read_at = read_at; at = at; writes = writes } ∷ behind) told
         (h.1 before behind split above),
+    h.2,
   )
   commits_from q last later entries told (Some (rec.Boot boot)) h = absurd h
   commits_from q last later entries told (Some (rec.Ceiling bound)) h = absurd h
@@ -207,70 +196,40 @@ grows_same : (p q : Part) → NoneBegins p q
     → (m : Msg) (served : List Served) (out : List Letter) (held : Option Held)
     → GrowsAs p q m served served out held
 grows_same p q none (msg.Statement m) served out held = inl (refl, none)
-grows_same p q none (msg.Answer m) served out held = refl
-grows_same p q none (msg.Commit m) served out held = refl
-grows_same p q none (msg.Outcome m) served out held = refl
-grows_same p q none (msg.Abort m) served out held = refl
-grows_same p q none (msg.CommitTwo m) served out held = refl
-grows_same p q none (msg.Prepare m) served out held = refl
-grows_same p q none (msg.Vote m) served out held = refl
-grows_same p q none (msg.Decide m) served out held = refl
-grows_same p q none (msg.Acked m) served out held = refl
-grows_same p q none (msg.Recover m) served out held = refl
-grows_same p q none msg.Nudge served out held = refl
+grows_same p q none (msg.Answer m) served out held = (refl, none)
+grows_same p q none (msg.Commit m) served out held = (refl, none)
+grows_same p q none (msg.Outcome m) served out held = (refl, none)
+grows_same p q none (msg.Abort m) served out held = (refl, none)
+grows_same p q none (msg.CommitTwo m) served out held = (refl, none)
+grows_same p q none (msg.Prepare m) served out held = (refl, none)
+grows_same p q none (msg.Vote m) served out held = (refl, none)
+grows_same p q none (msg.Decide m) served out held = (refl, none)
+grows_same p q none (msg.Acked m) served out held = (refl, none)
+grows_same p q none (msg.Recover m) served out held = (refl, none)
+grows_same p q none msg.Nudge served out held = (refl, none)
 
 stays_by : (p q : Part) → NoneBegins p q → (m : Msg) (served : List Served) (out : List Envelope)
     → GrowsBy p q m served served out
 stays_by p q none (msg.Statement m) served out = inl (refl, none)
-stays_by p q none (msg.Answer m) served out = refl
-stays_by p q none (msg.Commit m) served out = refl
-stays_by p q none (msg.Outcome m) served out = refl
-stays_by p q none (msg.Abort m) served out = refl
-stays_by p q none (msg.CommitTwo m) served out = refl
-stays_by p q none (msg.Prepare m) served out = refl
-stays_by p q none (msg.Vote m) served out = refl
-stays_by p q none (msg.Decide m) served out = refl
-stays_by p q none (msg.Acked m) served out = refl
-stays_by p q none (msg.Recover m) served out = refl
-stays_by p q none msg.Nudge served out = refl
+stays_by p q none (msg.Answer m) served out = (refl, none)
+stays_by p q none (msg.Commit m) served out = (refl, none)
+stays_by p q none (msg.Outcome m) served out = (refl, none)
+stays_by p q none (msg.Abort m) served out = (refl, none)
+stays_by p q none (msg.CommitTwo m) served out = (refl, none)
+stays_by p q none (msg.Prepare m) served out = (refl, none)
+stays_by p q none (msg.Vote m) served out = (refl, none)
+stays_by p q none (msg.Decide m) served out = (refl, none)
+stays_by p q none (msg.Acked m) served out = (refl, none)
+stays_by p q none (msg.Recover m) served out = (refl, none)
+stays_by p q none msg.Nudge served out = (refl, none)
 
 pub grows_none : (p q : Part) → NoneBegins p q
     → (w : Happening) (served : List Served) (out : List Envelope) → Grows p q w served served out
 grows_none p q none (what.Deliver e) served out = stays_by p q none e.msg served out
-grows_none p q none (what.Client conn frame) served out = refl
-grows_none p q none (what.Gone conn) served out = refl
-grows_none p q none what.Resend served out = refl
-grows_none p q none what.Moment served out = refl
-
--- Nothing begins where a live transaction is ended out of memory.
-
-taken_less : (lsid other : Lsid) (live : List (Lsid × Open)) (o : Open) (b : Bool)
-    → Rises lsid_cmp live → same_lsid other lsid ≡ b
-    → entry_of other (taken_out lsid_cmp lsid live) ≡ Some o → entry_of other live ≡ Some o
-taken_less lsid other live o true rises at there =
-    let wrong : None ≡ Some o = sym (live_taken lsid live rises) ∙ ap (λ (l : Lsid).
-    entry_of l (taken_out lsid_cmp lsid live)) (sym (lsid_same other lsid at)) ∙ there in cc
-taken_less lsid other live o false rises apart there =
-    sym (entry_without other lsid apart live) ∙ there
-
-own_none : (p : Part) → Rises lsid_cmp p.live → (lsid : Lsid) (s : Session) (st : SessionState)
-    → NoneBegins p (ends_own p lsid s st)
-own_none p rises lsid s state.Live =
-    λ other o there. taken_less lsid other p.live o (same_lsid other lsid) rises refl there
-own_none p rises lsid s (state.Prepared at coordinator) = λ other o there. there
-own_none p rises lsid s (state.Committed at) = λ other o there. there
-own_none p rises lsid s state.Released = λ other o there. there
-own_none p rises lsid s (state.Aborted why read_at) = λ other o there. there
-
-session_none : (p : Part) → Rises lsid_cmp p.live → (lsid : Lsid) (tag : Tag) (s : Option Session)
-    → NoneBegins p (ends_session p lsid tag s)
-session_none p rises lsid tag None = λ other o there. there
-session_none p rises lsid tag (Some s) = either (same_tag s.tag tag) (NoneBegins p) _ _ (own_none p
-    rises lsid s s.state) (λ other o there. there)
-
-memory_none : (p : Part) → Rises lsid_cmp p.live → (lsid : Lsid) (tag : Tag)
-    → NoneBegins p (ended_for_memory p lsid tag)
-memory_none p rises lsid tag = session_none p rises lsid tag (session p lsid)
+grows_none p q none (what.Client conn frame) served out = (refl, none)
+grows_none p q none (what.Gone conn) served out = (refl, none)
+grows_none p q none what.Resend served out = (refl, none)
+grows_none p q none what.Moment served out = (refl, none)
 
 -- What is given out.
 
@@ -324,7 +283,7 @@ module _ (s : ShardState) (entries : List Entry) (served : List Served) (opens m
             (subst (λ (c : Clock). Holds opens t.part c.last entries served) (sym at) holds);
         entered = t.part;
         enters = enters;
-        grows = grows_none t.part t.part (λ lsid o there. there) w served [];
+        grows = grows_none t.part t.part (none_same t.part) w served [];
         answered = nothing (OutTold served);
       }
 
@@ -411,7 +370,7 @@ module _ (s : ShardState) (entries : List Entry) (served : List Served) (opens :
         left = left_none opens s.part s.clock.last entries served w (opens, part, λ tag. refl);
         entered = s.part;
         enters = inl refl;
-        grows = grows_none s.part s.part (λ lsid o there. there) w served (given_out a);
+        grows = grows_none s.part s.part (none_same s.part) w served (given_out a);
         answered = h;
       }
 
@@ -463,7 +422,7 @@ module _ (s : ShardState) (entries : List Entry) (served : List Served) (opens :
           left = (gone, tt);
           entered = t.part;
           enters = inr (max s.wall wall, refl);
-          grows = refl;
+          grows = (refl, none_same t.part);
           answered = out_told (on_resend t).core served (on_resend t).out None (told_resends served
               t.part.shard t.coord);
         }

@@ -34,7 +34,7 @@ lower false true false e h = cc
 lower false false false e h = cc
 lower s n true e h = cc
 
-is_lower : (s : Session) (m : Statement) → is_replaced s m.number m.tag ≡ false
+pub is_lower : (s : Session) (m : Statement) → is_replaced s m.number m.tag ≡ false
     → same_tag s.tag m.tag ≡ false → s.number <ℤ m.number
 is_lower s m replaced differ =
     let below : int_lt s.number m.number ≡ true = lower (int_lt s.number m.number) (int_lt m.number
@@ -57,7 +57,7 @@ module _ (p : Part) (opens : Opens) (last : ℕ) (entries : List Entry) (served 
   by_rules fresh = statement_turns p opens last entries served part m
       (record { reads = reads; alone = alone; fresh = fresh }) wall
 
-  stays : (said : Said) → IsAnswered served m said → Turns (said, p)
+  stays : (said : Said) → IsAnswered p.boot served m said → Turns (said, p)
   stays said answered = record {
     told = served;
     holds = (opens, part, λ tag. refl);
@@ -71,9 +71,9 @@ module _ (p : Part) (opens : Opens) (last : ℕ) (entries : List Entry) (served 
   to_statement x is h = subst (λ y. Turns (rules.by_session p last wall m y)) (sym is) h
 
   kept_refusal : (s : Session) (why : Cause) (n : ℕ) → session p m.lsid ≡ Some s → s.tag ≡ m.tag
-      → s.state ≡ state.Aborted why n → IsRefusedAs served m why n
+      → s.state ≡ state.Aborted why n → IsRefusedAs p.boot served m why n
   kept_refusal s (cause.Statement err) n is same st = let h = part.refusals m.lsid s err n is st in
-      (h.0, h.1, h.2 ∙ same, h.3, h.4)
+      (h.0, h.1, h.2 ∙ same, h.3, h.4, h.5)
   kept_refusal s other n is same st = tt
 
   -- a session of this tag whose transaction isn't live

@@ -36,17 +36,17 @@ abbrev pub AnswersTo : Served → Msg → Type 0
 AnswersTo x (msg.Answer a) = IsAnswerOf x a
 AnswersTo x other = ⊥
 
--- A reply was told of a served statement of its transaction and place, at that moment; the refusal
--- of a statement by its meaning of one of its transaction, which it ended. Other causes are told of
--- none.
+-- In the boot that it names, a reply was told of a served statement of its transaction and place, at
+-- that moment; the refusal of a statement by its meaning of one of its transaction, which it ended.
+-- Other causes are told of none.
 
 abbrev pub RefusedThere : List Served → Answer → Cause → Type 0
-RefusedThere served a (cause.Statement err) = IsRefusedBy served a.tag err a.read_at
+RefusedThere served a (cause.Statement err) = IsRefusedBy a.boot served a.tag err a.read_at
 RefusedThere served a other = Unit {0}
 
 abbrev pub ToldThere : List Served → Answer → Result (OpReply × Bool) Cause → Type 0
 ToldThere served a (Ok done) = (x : Served) × Among x served × (x.tag ≡ a.tag) × (x.k ≡ a.k)
-    × (x.read_at ≡ a.read_at) × (reply_of x.meaning ≡ Ok done.0)
+    × (x.read_at ≡ a.read_at) × (reply_of x.meaning ≡ Ok done.0) × (x.life ≡ a.boot)
 ToldThere served a (Err why) = RefusedThere served a why
 
 abbrev pub IsToldBy : List Served → Msg → Type 0
@@ -60,10 +60,10 @@ IsToldBy served other = Unit {0}
 abbrev pub GrowsBy : Part → Part → Msg → List Served → List Served → List Envelope → Type 0
 GrowsBy p q (msg.Statement m) served told out =
     ((told ≡ served) × NoneBegins p q)
-    ⊎ ((x : Served) × (told ≡ x ∷ served) × IsOf m x × (x.life ≡ q.boot) × IsAnew p m
+    ⊎ ((x : Served) × (told ≡ x ∷ served) × IsOf m x × (x.life ≡ q.boot) × IsAnew p m x.read_at
     × LivesFor p q m.lsid x × ((e : Envelope) × (out ≡ e ∷ []) × AnswersTo x e.msg))
-GrowsBy p q other served told out = told ≡ served
+GrowsBy p q other served told out = (told ≡ served) × NoneBegins p q
 
 abbrev pub Grows : Part → Part → Happening → List Served → List Served → List Envelope → Type 0
 Grows p q (what.Deliver e) served told out = GrowsBy p q e.msg served told out
-Grows p q other served told out = told ≡ served
+Grows p q other served told out = (told ≡ served) × NoneBegins p q

@@ -19,8 +19,9 @@ ghost use Rattle.serving_laws.specs.Crash.{Serving, ServesAgain};
 
 /// A shard's step keeps what holds of its part beside its commits and what was served. At most one
 /// statement is served anew, the one that was delivered, and what is given out is then its Answer;
-/// a commit's record adds its entry; and each reply, and each refusal by a statement's meaning,
-/// that is given out was told of a served statement.
+/// else nothing becomes live; a commit's record adds its entry, with what its transaction wrote in
+/// this boot; and each reply, and each refusal by a statement's meaning, that is given out was told
+/// of a statement that was served in the boot that it names.
 pub fn a_step_is_right()
     ensures { (room : Room) (s : ShardState) (e : NodeEvent) (opens : Opens) (entries : List Entry)
         (served : List Served) → IsServing s.part opens s.clock.last entries served

@@ -115,7 +115,7 @@ have_ids s frame o e =
 -- Requests.
 
 cmd_bind : {A B : Type 0} (r : Result A CmdErr) (f : A → Result B CmdErr) (y : B)
-    → cmd.◌>>=◌ r f ≡ Ok y → (x : A) × (r ≡ Ok x) × (f x ≡ Ok y)
+    → (r >>= f) ≡ Ok y → (x : A) × (r ≡ Ok x) × (f x ≡ Ok y)
 cmd_bind (Ok x) f y e = (x, refl, e)
 cmd_bind (Err d) f y e = absurd cc
 

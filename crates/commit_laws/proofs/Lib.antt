@@ -1,0 +1,15 @@
+pub mod Once
+pub mod Follows
+pub mod Deeds
+pub mod Asking
+pub mod Answering
+pub mod Moves
+pub mod Requests
+pub mod Shards
+pub mod Standing
+pub mod Stepping
+pub mod Going
+pub mod Running
+pub mod Pairing
+pub mod Chaining
+pub mod Whole
