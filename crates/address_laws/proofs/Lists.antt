@@ -61,7 +61,7 @@ taken_all cmp Q key (row ∷ rows) h =
     taken_by cmp Q key row rows (cmp key row.0) (All-head Q row rows h) (All-tail Q row rows h)
     (taken_all cmp Q key rows (All-tail Q row rows h))
 
--- what stands behind the first key that a test takes
+-- what stands after the first key that a test takes
 found_by : {K A : Type 0} (R : A → Type 0) (entry : K × A) (more : Option (K × A))
     (test : Bool) (a : A)
     → R entry.1 → (option_map (λ (e : K × A). e.1) more ≡ Some a → R a)

@@ -1,4 +1,4 @@
--- What holds of each record of a shard, and of those in hand, holds behind its step, where it holds
+-- What holds of each record of a shard, and of those in hand, holds after its step, where it holds
 -- of what the step records. (It stands in world_laws too, in a module that isn't public.)
 use Rattle.std.proofs.Common.{◌⊎◌, inl, inr, ◌++◌, ℕ, All, List, [], ◌∷◌, Option, Some, None}
 use Rattle.std.proofs.Common.{IfSome, sym, subst}

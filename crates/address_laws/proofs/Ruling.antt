@@ -450,7 +450,7 @@ happens T s e what.Resend b c = record {
 }
 happens T s e what.Moment b c = calm T s e c
 
--- want of memory
+-- out of memory
 
 abbrev WantsThere : (NodeId → Type 0) → ShardState → Option Wanting → Type 0
 WantsThere T s w = IfSome w (λ w. T (Shard s.part.shard) → LetterThere T w.letter)
@@ -473,7 +473,7 @@ wants T s from (msg.Recover m) this b =
     either (is_some (router_of from)) (WantsThere T s) _ _ (λ own. (this, tt)) tt
 wants T s from msg.Nudge this b = tt
 
--- a shard that tells the want of memory keeps its number
+-- a shard that tells out of memory keeps its number
 
 ends_own_shard : (p : Part) (lsid : Lsid) (s : Session) (st : SessionState)
     → (ends_own p lsid s st).shard ≡ p.shard

@@ -152,7 +152,7 @@ leaves_doing T lsid number (Begun t) h = either (is_unfinished t.phase) (PostsTh
     (aborts_there T lsid number 6 t h.parts) (none T)
 leaves_doing T lsid number (Sought seeking known) h = none T
 
--- behind an end nothing more is asked
+-- after an end nothing more is asked
 ended_there : (T : NodeId → Type 0) (phase : Phase) (t : Transaction) → PhaseThere T phase
     → PartsThere T t.parts → ShardsThere T t.wrote → TransactionThere T (en.ended phase t)
 ended_there T phase t q p w = record { parts = p; wrote = w; answers = q; waiting = none T }

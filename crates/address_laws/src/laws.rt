@@ -8,7 +8,7 @@ ghost use Rattle.cluster_core.specs.Trace.{Happens, IsTrace, IsFresh};
 ghost use Rattle.world_laws.specs.Joint.{Stands, DisksStand};
 ghost use Rattle.address_laws.specs.Addresses.{AddressesStand, HasNode};
 
-/// Each message that was ever sent goes to a node that is there, behind each event and so behind
+/// Each message that was ever sent goes to a node that is there, after each event and so after
 /// each run: a caller who delivers what was sent may always do so. What nodes have of each other
 /// stands beside it. A token that names a shard which isn't there is refused by the router that is
 /// given it, and nothing is sent for it. It stands of nodes that have started with a map of their

@@ -182,7 +182,7 @@ fixed64_again : (n : ℕ) (rest : List ℕ) → n < 2 ^ 64
     → fixed_at w64 (to_le_bytes w64 n ++ rest) ≡ Ok (n, rest)
 fixed64_again n rest lt = rw (number64_again n rest lt) refl
 
--- what a reader gives of the bytes of a value, whatever stands behind them
+-- what a reader gives of the bytes of a value, whatever stands after them
 abbrev ReadBy : Reader → Value → ℕ → List ℕ → Type 0
 ReadBy read value byte b = (found : Kind) × (kind_of byte ≡ Some found)
     × ((end : ℕ) (rest : List ℕ) → read found end (b ++ rest) ≡ Ok (value, rest))

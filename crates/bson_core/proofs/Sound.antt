@@ -78,7 +78,7 @@ enough false o x e = (refl, some_is o x e)
 
 -- Numbers.
 
--- a number of four bytes, and the bytes behind it, are all of the bytes
+-- a number of four bytes, and the bytes after it, are all of the bytes
 abbrev pub Is32 : List ℕ → ℕ × List ℕ → Type 0
 Is32 bytes x = (bytes ≡ to_le_bytes w32 x.0 ++ x.1) × IsInput x.1 × (x.0 < 2 ^ 32)
     × (length x.1 + 4 ≡ length bytes)
@@ -186,7 +186,7 @@ framed_parts count rest t after {len = len} p q = ap (λ (m : ℕ). to_le_bytes 
     ∙ ap (λ (r : List ℕ). to_le_bytes w32 len ++ r) q
     ∙ sym (append_assoc (to_le_bytes w32 len) (t ++ 0 ∷ []) after)
 
--- what stands in front of a 00, and what behind it
+-- what stands in front of a 00, and what after it
 around_zero : (rest : List ℕ) (count : ℕ) → 0 < count → count ≤ length rest
     → get_or rest (count - 1) 0 ≡ 0 → rest ≡ (take (count - 1) rest ++ 0 ∷ []) ++ drop count rest
 around_zero rest count some long is = sym (take-append-drop count rest)

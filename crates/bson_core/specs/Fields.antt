@@ -13,7 +13,7 @@ value_of name [] = None
 value_of name (field ∷ fields) = if bytes_eq field.0 name then Some field.1
     else value_of name fields
 
--- the document with the value in place of the first of that name, or behind the others
+-- the document with the value in place of the first of that name, or after the others
 abbrev pub with_value : List ℕ → Value → Document → Document
 with_value name value [] = (name, value) ∷ []
 with_value name value (field ∷ fields) = if bytes_eq field.0 name then (name, value) ∷ fields

@@ -1,4 +1,4 @@
--- Reading front to back, as functions on lists: a value and the bytes behind it, or the first
+-- Reading front to back, as functions on lists: a value and the bytes after it, or the first
 -- fault, with its place.
 --
 -- A value is read from the bytes that are left of the document that holds it, without that
@@ -27,7 +27,7 @@ use Rattle.bson_core.specs.Fields.{Document}
 use Rattle.bson_core.specs.Grammar.{values_of}
 use Rattle.bson_core.specs.Kinds.{kind_of}
 
--- want of memory, which no function on lists answers
+-- out of memory, which no function on lists answers
 abbrev pub is_memory : BsonErr → Bool
 is_memory Memory = true
 is_memory e = false
@@ -36,7 +36,7 @@ is_memory e = false
 abbrev pub Gives : {X Y : Type 0} → (X → Y) → Result X BsonErr → Result Y BsonErr → Type 0
 Gives view result read = outcome.Gives is_memory view result read
 
--- a value and the bytes behind it, or the first fault
+-- a value and the bytes after it, or the first fault
 abbrev pub Field : Type 0 → Type 0
 Field A = Result (A × List ℕ) BsonErr
 
@@ -49,7 +49,7 @@ abbrev pub or_fault : {A : Type 0} → BsonErr → Option A → Result A BsonErr
 or_fault e None = Err e
 or_fault e (Some x) = Ok x
 
--- a number, its lowest byte first, and the bytes behind it
+-- a number, its lowest byte first, and the bytes after it
 unfoldable pub number_at : Width → List ℕ → Option (ℕ × List ℕ)
 number_at w bytes = if nat_lt (length bytes) (byte_len w) then None
     else Some (from_le_bytes w (take (byte_len w) bytes), drop (byte_len w) bytes)
@@ -58,7 +58,7 @@ number_at w bytes = if nat_lt (length bytes) (byte_len w) then None
 unfoldable pub count_at : ℕ → List ℕ → Field ℕ
 count_at end bytes = or_fault (Length (place end bytes)) (number_at w32 bytes)
 
--- the bytes before the first 00, which are a text, and those behind it
+-- the bytes before the first 00, which are a text, and those after it
 abbrev pub cut_at : ℕ → Option ℕ → List ℕ → Field (List ℕ)
 cut_at end None bytes = Err Short
 cut_at end (Some n) bytes = if is_utf8 (take n bytes) then Ok (take n bytes, drop (n + 1) bytes)
@@ -127,7 +127,7 @@ value_by nested kind.List end bytes =
     nested end bytes >>= λ x. Ok (roll-Value (of.List (values_of x.0)), x.1)
 value_by nested (kind.Leaf l) end bytes = leaf_at l end bytes
 
--- an element and the bytes behind it, or none where the document's last byte is next; `start` is
+-- an element and the bytes after it, or none where the document's last byte is next; `start` is
 -- the place of its count
 unfoldable pub element_at : Reader → ℕ → ℕ → List ℕ
     → Result (Option ((List ℕ × Value) × List ℕ)) BsonErr
@@ -139,7 +139,7 @@ element_at read start end (byte ∷ bytes) =
       value ← read kind end name.1
       Ok (Some ((name.0, value.0), value.1)))
 
--- what stands behind an element
+-- what stands after an element
 abbrev pub behind : (List ℕ → Result Document BsonErr) → Option ((List ℕ × Value) × List ℕ)
     → Result Document BsonErr
 behind next None = Ok []

@@ -14,7 +14,7 @@ use Rattle.bson_core.specs.Fields.{Document}
 abbrev pub Coded : Type 0
 Coded = ℕ × List ℕ
 
--- an int32 with the number of bytes and the 00 behind them, the bytes, and a 00
+-- an int32 with the number of bytes and the 00 after them, the bytes, and a 00
 unfoldable pub text : List ℕ → List ℕ
 text bytes = to_le_bytes w32 (length bytes + 1) ++ bytes ++ 0 ∷ []
 

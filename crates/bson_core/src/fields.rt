@@ -30,8 +30,8 @@ fn place_of(doc: &Doc, name: &str) -> Option<usize>
         .position(|field| field.0.as_str() == name)
 }
 
-/// Puts the value in place of the first of that name, or behind the others where there is none. For
-/// want of memory the value comes back, and the document is as it was.
+/// Puts the value in place of the first of that name, or after the others where there is none. For
+/// out of memory the value comes back, and the document is as it was.
 pub fn set(alloc: Global, doc: &mut Doc, name: &str, value: Value) -> Result<(), Value>
     requires { IsTrue (has_no_zero name.now) }
     ensures ok { OnOk result (doc.new ≡ with_value name.now value doc.old) }

@@ -36,7 +36,7 @@ fn start_of(last_at: u64, bytes: &[u8]) -> u64
     last_at.saturating_sub(bytes.len() as u64)
 }
 
-/// The number in the first 4 bytes, the lowest of them first, and the bytes behind it.
+/// The number in the first 4 bytes, the lowest of them first, and the bytes after it.
 #[tactic(auto, unfolding(crate::specs::Reading::number_at))]
 pub fn front_u32(bytes: &[u8]) -> Option<(u32, &[u8])>
     ensures { option_map (λ x. (x.0, x.1.now)) result ≡ number_at w32 bytes.now }
@@ -115,7 +115,7 @@ fn text_in(bytes: &[u8]) -> Option<&str>
     }
 }
 
-/// The name at the front of the bytes, and what stands behind the 00 that ends it. It is `Short`
+/// The name at the front of the bytes, and what stands after the 00 that ends it. It is `Short`
 /// where there is no 00, and
 /// `Text` where it is no UTF-8; its place counts so that the bytes end at `last_at`.
 #[tactic(auto, unfolding(crate::specs::Reading::name_at))]
@@ -365,7 +365,7 @@ fn read_body(
     Ok(fields)
 }
 
-/// The next element and the bytes behind it, or none where there are no more bytes.
+/// The next element and the bytes after it, or none where there are no more bytes.
 #[cycle(value)]
 #[tactic(auto, unfolding(crate::specs::Reading::element_at))]
 fn read_element(

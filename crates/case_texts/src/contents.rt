@@ -1,4 +1,4 @@
-//! Operations, replies and causes as text, each behind a space.
+//! Operations, replies and causes as text, each after a space.
 use crate::names::{put_tag, put_time};
 use bson_core::{Doc, Value};
 use std::alloc::{AllocError, Global};
@@ -258,7 +258,7 @@ fn put_by(out: &mut String, by: &By) -> Result<(), AllocError> {
     }
 }
 
-/// What a cause says behind its number.
+/// What a cause says after its number.
 fn put_cause_fields(alloc: Global, out: &mut String, cause: &Cause) -> Result<(), AllocError> {
     match cause {
         Cause::WriteConflict { id, by } => {

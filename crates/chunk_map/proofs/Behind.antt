@@ -22,7 +22,7 @@ no_more : (front : List ChunkRow) → front ++ [] ≡ front
 no_more [] = refl
 no_more (y ∷ front) = ap (λ ys. y ∷ ys) (no_more front)
 
--- the fault at a place, or else of those behind it
+-- the fault at a place, or else of those after it
 fault_from : (shards k : ℕ) (front rows : List ChunkRow) (row : ChunkRow) → row ≡ get_or rows k row
     → k < length rows
     → (place : ℕ) → fault_behind shards place (front ++ take k rows) (drop k rows)
@@ -64,7 +64,7 @@ last_here : (ns : List ℕ) (rows : List ChunkRow) (row : ChunkRow) (b : Bool) �
 last_here ns rows row true h o = last_step row (ranges_of ns rows) o
 last_here ns rows row false h o = cc
 
--- behind a row of the namespace, this is the last so far
+-- after a row of the namespace, this is the last so far
 last_suc : (ns : List ℕ) (rows : List ChunkRow) (k : ℕ) (row : ChunkRow) → row ≡ get_or rows k row
     → k < length rows → bytes_eq row.ns ns ≡ true → (o : Option ChunkRow)
     → option_or (last_range (ranges_of ns (drop k rows))) o

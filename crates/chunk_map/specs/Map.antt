@@ -26,7 +26,7 @@ last_range [] = None
 last_range (row ∷ []) = Some row
 last_range (row ∷ next ∷ rows) = last_range (next ∷ rows)
 
--- what is wrong with how a row begins, behind the last of its namespace
+-- what is wrong with how a row begins, after the last of its namespace
 abbrev pub beginning_fault : ℕ → Option ChunkRow → Option Id → Option MapErr
 beginning_fault place None None = None
 beginning_fault place None (Some id) = Some (Gap place)
@@ -36,13 +36,13 @@ beginning_fault place (Some before) (Some id) = elim (before.from) [
   | Some low ↦ if is_lt (id_cmp low id) then None else Some (Overlap place)
 ]
 
--- what is wrong with a row at its place, behind those rows
+-- what is wrong with a row at its place, after those rows
 abbrev pub row_fault : ℕ → ℕ → List ChunkRow → ChunkRow → Option MapErr
 row_fault shards place before row =
     option_or (beginning_fault place (last_range (ranges_of row.ns before)) row.from)
     (if nat_lt row.shard shards then None else Some (NoShard place))
 
--- the first fault of rows, from that place on, behind those rows
+-- the first fault of rows, from that place on, after those rows
 abbrev pub fault_behind : ℕ → ℕ → List ChunkRow → List ChunkRow → Option MapErr
 fault_behind shards place before [] = None
 fault_behind shards place before (row ∷ rows) = option_or (row_fault shards place before row)

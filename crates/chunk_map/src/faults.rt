@@ -21,7 +21,7 @@ fn last_range<'a>(ns: &Ns, rows: &'a [ChunkRow]) -> Option<&'a ChunkRow>
     last
 }
 
-/// What is wrong with how a row begins, behind the last of its namespace.
+/// What is wrong with how a row begins, after the last of its namespace.
 fn beginning_fault(place: usize, before: Option<&ChunkRow>, from: &Option<Id>) -> Option<MapErr>
     ensures { result ≡ beginning_fault place (option_copied before.entry) from.now }
 {
@@ -37,7 +37,7 @@ fn beginning_fault(place: usize, before: Option<&ChunkRow>, from: &Option<Id>) -
     }
 }
 
-/// What is wrong with a row, behind those before it.
+/// What is wrong with a row, after those before it.
 fn row_fault(shards: u16, place: usize, before: &[ChunkRow], row: &ChunkRow) -> Option<MapErr>
     ensures { result ≡ row_fault shards place before.now row.now }
 {

@@ -95,7 +95,7 @@ impl Label {
     }
 }
 
-/// The kind of the causes of that number; any that is none is as want of memory.
+/// The kind of the causes of that number; any that is none is as out of memory.
 fn kind_numbered(number: u8) -> Kind
     ensures { result ≡ kind_numbered number }
 {

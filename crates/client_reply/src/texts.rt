@@ -253,7 +253,7 @@ pub fn cause_text(
     }
 }
 
-/// The words, and behind them the name.
+/// The words, and after them the name.
 fn with_name(alloc: Global, words: &str, name: &Name) -> Result<String, AllocError>
     ensures { IfOk result (λ s. string_bytes s ≡ words.now ++ name.now) }
 {

@@ -35,7 +35,7 @@ long_enough : (limit : ℕ) (held : List ℕ) (len : ℕ)
 unfolding length_of
 long_enough limit held len found = by_number limit held (number_at w32 held) len found
 
--- so what is held behind one is shorter
+-- so what is held after one is shorter
 pub rest_shrinks : (limit : ℕ) (held : List ℕ) (m : List ℕ × List ℕ)
     → next_of limit held ≡ Ok (Some m) → length m.1 < length held
 rest_shrinks limit held m is =

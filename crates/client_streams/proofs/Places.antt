@@ -35,7 +35,7 @@ named conn c = nat_eq c.conn conn
 abbrev pub place : ℕ → List Connection → ℕ
 place conn cs = position_or_len (named conn) cs
 
--- a connection is put at the place of its number, or behind the others
+-- a connection is put at the place of its number, or after the others
 put_case : (c d : Connection) (cs : List Connection) (t : Bool) → nat_eq c.conn d.conn ≡ t
     → (place c.conn cs < length cs → slice_set cs (place c.conn cs) c ≡ with_connection c cs)
     → cond (not t) (1 + place c.conn cs) 0 < suc (length cs)

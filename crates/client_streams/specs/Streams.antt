@@ -45,7 +45,7 @@ abbrev pub cut_times : ℕ → Connection → Connection
 cut_times zero c = c
 cut_times (suc n) c = cut_by (cut_times n) c (next_of most_message c.bytes)
 
--- bytes come on it; behind a fault they are dropped
+-- bytes come on it; after a fault they are dropped
 abbrev pub fed_by : Option ℕ → Connection → List ℕ → Connection
 fed_by None c bytes = cut_times (length (c.bytes ++ bytes)) (record c { bytes = c.bytes ++ bytes })
 fed_by (Some number) c bytes = c
@@ -53,7 +53,7 @@ fed_by (Some number) c bytes = c
 unfoldable pub fed : Connection → List ℕ → Connection
 fed c bytes = fed_by c.fault c bytes
 
--- The connections that bytes came on: that of a number, and one that is put at its place, or behind
+-- The connections that bytes came on: that of a number, and one that is put at its place, or after
 -- the others.
 
 abbrev pub connection_in : List Connection → ℕ → Connection

@@ -109,7 +109,7 @@ impl Connection {
         Ok(())
     }
 
-    /// Bytes come on it; behind a fault they are dropped.
+    /// Bytes come on it; after a fault they are dropped.
     #[tactic(auto, unfolding(crate::specs::Streams::fed))]
     pub(crate) fn feed(&mut self, alloc: Global, bytes: &[u8]) -> Result<(), AllocError>
         ensures { OnOk result (self.new ≡ fed self.old bytes.now) }

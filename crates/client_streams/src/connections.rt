@@ -43,7 +43,7 @@ impl Connections {
         self.all.iter().position(|connection| connection.is(conn))
     }
 
-    /// Puts a connection at its place, or behind the others.
+    /// Puts a connection at its place, or after the others.
     fn put(&mut self, connection: Connection) -> Result<(), AllocError>
         ensures { OnOk result (self.new ≡ with_connection connection self.old) }
     {

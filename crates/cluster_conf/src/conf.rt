@@ -135,7 +135,7 @@ impl Conf {
         }
     }
 
-    /// One shard, one router and no rows. It is refused for want of memory alone.
+    /// One shard, one router and no rows. It is refused only out of memory.
     pub fn plain(alloc: Global) -> Result<Conf, ConfErr>
         ensures ok { IfOk result (λ c. c ≡ plain) }
         ensures err { IfErr result (λ e. e ≡ Memory) }

@@ -1,7 +1,7 @@
 -- Which statements a run answered, from the messages and requests of the run alone. A statement is
 -- answered at the step at which its router has taken, from every shard that it sent the statement
 -- to, an Answer with a reply or with the statement's own refusal. The first Answer of each shard
--- counts, and none behind the end of the statement's connection.
+-- counts, and none after the end of the statement's connection.
 use Rattle.std.specs.Prelude.{ℕ, ◌&&◌, Bool, not, List, [], ◌∷◌, ◌++◌, map, filter, filter_map}
 use Rattle.std.specs.Prelude.{nat_eq, length, Option, Some, None, is_some, Ok, Err, if◌then◌else◌}
 use Rattle.std.specs.List.{list_any, list_all}
@@ -128,7 +128,7 @@ taken_what n (what.Deliver e) us = taken_msg n e.msg us
 taken_what n (what.Gone conn) us = filter (λ u. not (nat_eq u.router n && nat_eq u.conn conn)) us
 taken_what n other us = us
 
--- the statements behind a router's step, with those that it answers
+-- the statements after a router's step, with those that it answers
 abbrev pub unanswered_behind : ℕ → RouterState → NodeEvent → NodeAnswer → List Unanswered
     → List Unanswered
 unanswered_behind n r e a us = taken_what n e.what us ++ opened n (request_at r e a) a

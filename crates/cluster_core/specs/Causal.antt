@@ -54,7 +54,7 @@ abbrev pub time_of : Option RouterState → ℕ
 time_of None = 0
 time_of (Some r) = r.time
 
--- the router's time behind the step of a reply, which the reply carries
+-- the router's time after the step of a reply, which the reply carries
 abbrev pub time_behind : List RouterState → List Ran → ℕ → ℕ → ℕ
 time_behind routers run n place =
     time_of (slice_get (ledger_behind (fresh_ledger routers) (take (place + 1) run)).routers n)

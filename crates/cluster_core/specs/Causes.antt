@@ -67,7 +67,7 @@ use Rattle.cluster_core.specs.Routers.{Asked, request_at}
 use Rattle.cluster_core.specs.Ledger.{Ledger, fresh_ledger, ledger_behind, answered_in}
 use Rattle.cluster_core.specs.Telling.{Telling, Meant, Done, Undone, Caused}
 
--- A run, the nodes before each of its steps, those behind it, and the map of its chunks.
+-- A run, the nodes before each of its steps, those after it, and the map of its chunks.
 pub record Past : Type 0 where
   pub chunks : Map
   pub routers : List RouterState
@@ -75,7 +75,7 @@ pub record Past : Type 0 where
   pub trace : List Nodes
   pub now : Nodes
 
--- Where a cause was made: the shard before and behind the step, its event and its answer; and the
+-- Where a cause was made: the shard before and after the step, its event and its answer; and the
 -- session and number of the transaction.
 pub record Making : Type 0 where
   pub place : ℕ

@@ -29,7 +29,7 @@ abbrev pub fresh_ledger : List RouterState → Ledger
 fresh_ledger routers =
     record { routers = routers; place = 0; begun = []; unanswered = []; hands = [] }
 
--- what a step does at its router: the ledger behind it, the statements that it answers, and its
+-- what a step does at its router: the ledger after it, the statements that it answers, and its
 -- replies
 pub record Entered : Type 0 where
   pub ledger : Ledger
@@ -80,7 +80,7 @@ entered_by l (Swapped (Router n)) =
     record { ledger = swapped l n (slice_get l.routers n); answered = []; replied = [] }
 entered_by l (Swapped (Shard n)) = passed l
 
--- behind a run
+-- after a run
 abbrev pub ledger_behind : Ledger → List Ran → Ledger
 ledger_behind l [] = l
 ledger_behind l (ran ∷ run) = ledger_behind (entered_by l ran).ledger run

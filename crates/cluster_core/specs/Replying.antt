@@ -87,7 +87,7 @@ is_of n conn h = nat_eq h.router n && nat_eq h.conn conn
 abbrev pub without_conn : ℕ → ℕ → List Hand → List Hand
 without_conn n conn hands = filter (λ h. not (is_of n conn h)) hands
 
--- behind the end of a connection
+-- after the end of a connection
 abbrev pub hands_at : ℕ → Happening → List Hand → List Hand
 hands_at n (what.Gone conn) hands = without_conn n conn hands
 hands_at n other hands = hands

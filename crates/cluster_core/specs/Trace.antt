@@ -110,7 +110,7 @@ Happens old (Step (Router n) e a faults) new = RouterSteps old n e a faults new
 Happens old (Swapped (Shard n)) new = ShardStarts old n new
 Happens old (Swapped (Router n)) new = RouterStarts old n new
 
--- the nodes before each step of a run, and those behind it
+-- the nodes before each step of a run, and those after it
 abbrev pub IsTrace : Nodes → List Ran → List Nodes → Nodes → Type 0
 IsTrace old [] [] new = new ≡ old
 IsTrace old [] (nodes ∷ trace) new = ⊥

@@ -41,7 +41,7 @@ comes_does told chunks p q given w event nodes behind (Some (Step node e a fault
 comes_does told chunks p q given w event nodes behind (Some (Swapped node)) text asks gives cannot
     h = absurd h
 
--- the text of a step, behind what a buffer held
+-- the text of a step, after what a buffer held
 abbrev pub ComesIn : Player → Given → WorldEvent → Nodes → List ℕ → List ℕ → Player → Nodes → Type 0
 ComesIn p given event nodes out out' q behind = (item : Option Ran) × (more : List ℕ)
     × (out' ≡ out ++ more) × Comes p given event nodes item more q behind

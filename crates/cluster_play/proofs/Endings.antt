@@ -114,7 +114,7 @@ ended_first told lines held status.Budget h refuses = absurd h
 ended_first told lines held status.WriteFault h refuses = absurd h
 ended_first told lines held status.ReadFault h refuses = absurd h
 
--- all disks are there behind a playing
+-- all disks are there after a playing
 pub has_all : {D : Type 0} (r : Result Status (Stop D)) (old new : Nodes) (disks shards routers : ℕ)
     → Leaves r old new → shards ≡ length new.shards → routers ≡ length new.routers
     → disks + length old.shards + length old.routers ≡ 24 → length old.shards ≤ 16

@@ -6,7 +6,7 @@ use Rattle.std.proofs.lemmas.List.{append-nil}
 use Rattle.std.specs.Str.{bytes_eq}
 use Rattle.cluster_play.specs.Schedule.{MarkedLines, marker, up_to_marker, marked_by, text_of}
 
--- what is found from here on, behind what was gathered
+-- what is found from here on, after what was gathered
 abbrev pub behind : List ℕ → ℕ → List (List ℕ) × List (List ℕ) → MarkedLines
 behind text taken parts =
     record { text = text ++ text_of parts.0; taken = taken + length parts.0 + 1; lines = parts.1 }

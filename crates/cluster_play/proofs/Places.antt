@@ -37,7 +37,7 @@ drop_insert xs zero x h = refl
 drop_insert [] (suc n) x h = absurd (omega (arith, h))
 drop_insert (y ∷ ys) (suc n) x h = drop_insert ys n x (omega (arith, h))
 
--- the last router's disk is put in behind the shards'
+-- the last router's disk is put in after the shards'
 pub routers_popped : {D : Type 0} (old new : List (RouterOn (DiskRecords D)))
     (node : RouterOn (DiskRecords D)) (disk : D) (disks more all : List D)
     → old ≡ new ++ node ∷ [] → disk ≡ node.log.journal.disk → more ≡ insert disks 16 disk

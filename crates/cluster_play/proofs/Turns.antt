@@ -128,7 +128,7 @@ progress_stops told chunks p q nodes mid held held1 held2 (stop.Cut cut) h t =
 progress_stops told chunks p q nodes mid held held1 held2 (stop.Lone node error disk) h t =
     progress_last told chunks p q nodes mid held held1 held2 (Renew node) h t.0 t.1
 
--- the nodes behind a stop
+-- the nodes after a stop
 pub stops_later : {D : Type 0} (old mid new : Nodes) (s : Stop D) → AsMany old mid
     → StopLeaves s mid new → StopLeaves s old new
 stops_later old mid new (stop.Cut cut) a b =

@@ -87,7 +87,7 @@ IsUnstarted told lines place held held' =
     ((s : Schedule) × (schedule_of lines ≡ Ok s) × HasPlace s.conf place × (held' ≡ held))
     ⊎ ((node : NodeId) × (place ≡ place_of node) × Played told lines (Renew node) held held')
 
--- What each status says of the lines, and of what was written behind what the sink held before.
+-- What each status says of the lines, and of what was written after what the sink held before.
 abbrev pub Ended : Type 0 → List (List ℕ) → Option (List ℕ) → Option (List ℕ) → Status → Type 0
 Ended told lines held held' status.Ok = Played told lines End held held'
 Ended told lines held held' (status.BadLine line) = IsRefused lines (status.BadLine line) held held'

@@ -34,7 +34,7 @@ asked wall (want.Event node happening) = Some (At node (record { wall = wall; wh
 asked wall (want.Deliver number) = Some (Deliver number wall)
 asked wall other = None
 
--- A node took what was asked. One that answers want of memory ends the playing, so that is none.
+-- A node took what was asked. One that answers out of memory ends the playing, so that is none.
 pub record IsTaken (nodes : Nodes) (wall : ℕ) (w : Want) (node : NodeId) (e : NodeEvent)
     (a : NodeAnswer) : Type 0 where
   pub event : WorldEvent
@@ -72,7 +72,7 @@ pub record ShardRestarts (told : Type 0) (old : Nodes) (n : ℕ) (new : Nodes) :
   pub nodes : new
       ≡ record { shards = slice_set old.shards n after; routers = old.routers; sent = old.sent }
 
--- a router starts again, with the map of the configuration, at the boot behind those in its journal
+-- a router starts again, with the map of the configuration, at the boot after those in its journal
 pub record RouterRestarts (chunks : Map) (old : Nodes) (n : ℕ) (new : Nodes) : Type 0 where
   pub before : RouterState
   pub boot : ℕ
@@ -89,7 +89,7 @@ Happened told chunks old (Step node e a faults) new = Happens old (Step node e a
 Happened told chunks old (Swapped (Shard n)) new = ShardRestarts told old n new
 Happened told chunks old (Swapped (Router n)) new = RouterRestarts chunks old n new
 
--- What is written of it, with the nodes behind it; and the player then.
+-- What is written of it, with the nodes after it; and the player then.
 
 abbrev pub boot_at : Nodes → NodeId → ℕ
 boot_at nodes (Shard n) = elim (slice_get nodes.shards n) [ Some s ↦ s.core.part.boot | None ↦ 0 ]
@@ -127,7 +127,7 @@ Turn told chunks n nodes item text q behind = (more : List ℕ) × (text ≡ n.0
     × Does told chunks n.2 n.1 nodes item more q behind
 
 -- so many turns, one after the other: their items, the text of them all, and the player and the
--- nodes behind them
+-- nodes after them
 abbrev pub PlaysTo : Type 0 → Map → Player → Nodes → List (Option Ran) → List ℕ → Player
     → Nodes → Type 0
 PlaysTo told chunks p nodes [] text q behind = (text ≡ []) × (q ≡ p) × (behind ≡ nodes)

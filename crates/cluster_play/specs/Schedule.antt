@@ -1,4 +1,4 @@
--- A schedule as it is read: the configuration in front of it, and the lines behind that.
+-- A schedule as it is read: the configuration in front of it, and the lines after that.
 use Rattle.std.specs.Prelude.{ℕ, ◌+◌, Bool, true, false, List, [], ◌∷◌, ◌++◌, codes, flat_map}
 use Rattle.std.specs.Prelude.{length, Option, Some, None, option_map, Result, Ok, Err}
 use Rattle.std.specs.Prelude.{if◌then◌else◌}
@@ -19,7 +19,7 @@ bytes_played bytes Whole = bytes
 bytes_played bytes LongLine = bytes ++ 10 ∷ []
 bytes_played bytes ManyLines = bytes ++ 10 ∷ []
 
--- results of reading a configuration, up to want of memory
+-- results of reading a configuration, up to out of memory
 
 abbrev pub is_memory : Status → Bool
 is_memory status.Memory = true
@@ -28,23 +28,23 @@ is_memory other = false
 abbrev pub Gives : {X Y : Type 0} → (X → Y) → Result X Status → Result Y Status → Type 0
 Gives view result defined = outcome.Gives is_memory view result defined
 
--- a configuration, how many lines it takes, and the lines behind it
+-- a configuration, how many lines it takes, and the lines after it
 pub record Schedule : Type 0 where
   pub conf : Settings
   pub taken : ℕ
   pub lines : List (List ℕ)
 
--- the line in front of a configuration, and behind it
+-- the line in front of a configuration, and after it
 abbrev pub marker : List ℕ
 marker = codes "+++"
 
--- the lines in front of the next marker, and those behind it
+-- the lines in front of the next marker, and those after it
 abbrev pub up_to_marker : List (List ℕ) → Option (List (List ℕ) × List (List ℕ))
 up_to_marker [] = None
 up_to_marker (l ∷ lines) = if bytes_eq l marker then Some ([], lines)
     else option_map (λ parts. (l ∷ parts.0, parts.1)) (up_to_marker lines)
 
--- the text between two markers, how many lines it has with both, and the lines behind that
+-- the text between two markers, how many lines it has with both, and the lines after that
 pub record MarkedLines : Type 0 where
   pub text : List ℕ
   pub taken : ℕ
@@ -84,6 +84,6 @@ schedule_of [] = Ok (unmarked [])
 schedule_of (l ∷ lines) = if bytes_eq l marker
     then enclosed (option_map marked_by (up_to_marker lines)) else Ok (unmarked (l ∷ lines))
 
--- the player before the first line behind the configuration
+-- the player before the first line after the configuration
 abbrev pub player_of : Schedule → Player
 player_of s = first_player s.conf.shards s.conf.routers s.taken s.lines

@@ -39,7 +39,7 @@ shard_disks shards = map (λ n. n.log.journal.disk) shards
 abbrev pub router_disks : {D : Type 0} → List (RouterOn (DiskRecords D)) → List D
 router_disks routers = map (λ n. n.log.journal.disk) routers
 
--- with disks put in behind those of all shards
+-- with disks put in after those of all shards
 abbrev pub behind_shards : {D : Type 0} → List D → List D → List D
 behind_shards disks routers = take 16 disks ++ routers ++ drop 16 disks
 

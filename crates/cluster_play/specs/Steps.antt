@@ -61,7 +61,7 @@ AreAllBut (Router n) old new = (length new.shards ≡ length old.shards)
 
 -- Stops.
 
--- the nodes that are left behind a result
+-- the nodes that are left after a result
 abbrev pub StopLeaves : {D : Type 0} → Stop D → Nodes → Nodes → Type 0
 StopLeaves (stop.Cut cut) old new = AsMany old new
 StopLeaves (stop.Lone node error disk) old new = HasNode old node × AreAllBut node old new
@@ -76,7 +76,7 @@ RoseAt before now (stop.Cut cuts.WriteFault) = Rose before now
 RoseAt before now (stop.Cut cuts.Memory) = Unit {0}
 RoseAt before now (stop.Lone node error disk) = Unit {0}
 
--- for want of memory, or at a node that was to start again
+-- out of memory, or at a node that was to start again
 abbrev pub StopsFor : {D : Type 0} → Want → Stop D → Type 0
 StopsFor w (stop.Cut cut) = cut ≡ cuts.Memory
 StopsFor w (stop.Lone node error disk) = w ≡ want.Renew node

@@ -36,7 +36,7 @@ pub fn put_shards<D: Disk>(shards: Vec<ShardNode<DiskLog<D>>>, disks: &mut Vec<D
     shards.destroy_empty();
 }
 
-/// Puts the disks of routers at their places, behind those of all shards.
+/// Puts the disks of routers at their places, after those of all shards.
 #[tactic(auto, using(crate::proofs::Places::take_insert, crate::proofs::Places::drop_insert))]
 pub fn put_routers<D: Disk>(routers: Vec<RouterNode<DiskLog<D>>>, disks: &mut Vec<D>)
     requires room { vec_len routers + vec_len disks.old ≤ vec_capacity disks.old }

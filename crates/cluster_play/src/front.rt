@@ -10,10 +10,10 @@ use play_script::next_line;
 use std::alloc::{AllocError, Global};
 use std::marker::Model;
 
-/// The line in front of a configuration, and behind it.
+/// The line in front of a configuration, and after it.
 const MARKER: &[u8] = b"+++";
 
-/// A configuration, and the lines behind it; so many lines came before these.
+/// A configuration, and the lines after it; so many lines came before these.
 #[derive(Drop)]
 pub struct Front<'a> {
     pub conf: Conf,
@@ -30,7 +30,7 @@ impl<'a> Model for Front<'a> {
     ghost view = { λ f. record { conf = f.conf; taken = f.taken; lines = lines_of f.lines.now } };
 }
 
-/// The text between two markers, and the lines behind that; so many lines came before these.
+/// The text between two markers, and the lines after that; so many lines came before these.
 #[derive(Drop)]
 struct MarkedText<'a> {
     text: Vec<u8>,
@@ -99,7 +99,7 @@ fn unmarked(alloc: Global, lines: &[u8]) -> Result<Front, Status>
     }
 }
 
-/// The configuration up to the next marker, and the lines behind it.
+/// The configuration up to the next marker, and the lines after it.
 fn marked(alloc: Global, lines: &[u8]) -> Result<Front, Status>
     ensures front { Gives (λ f. f) result
         (enclosed (option_map marked_by (up_to_marker (lines_of lines.now)))) }

@@ -179,7 +179,7 @@ impl<D: Disk> Nodes<D> {
         Ok(())
     }
 
-    /// Starts the routers of a configuration, whose disks stand behind those of 16 shards.
+    /// Starts the routers of a configuration, whose disks stand after those of 16 shards.
     fn start_routers(
         &mut self,
         alloc: Global,

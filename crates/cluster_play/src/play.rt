@@ -57,7 +57,7 @@ fn status_cut(cut: Cut) -> Status
     }
 }
 
-/// Puts all disks at their places again behind a playing, and tells how that ended.
+/// Puts all disks at their places again after a playing, and tells how that ended.
 fn end<D: Disk>(played: Result<Status, Stop<D>>, nodes: Nodes<D>, disks: &mut Vec<D>) -> Status
     requires all { HasAll played (vec_len disks.old) (vec_len nodes.shards)
         (vec_len nodes.routers) }
@@ -81,7 +81,7 @@ fn end<D: Disk>(played: Result<Status, Stop<D>>, nodes: Nodes<D>, disks: &mut Ve
     }
 }
 
-/// Plays a schedule over nodes that have started; all disks are at their places again behind it.
+/// Plays a schedule over nodes that have started; all disks are at their places again after it.
 fn play_over<K: Sink, D: Disk>(
     alloc: Global,
     map: &ChunkMap,
@@ -178,7 +178,7 @@ fn bytes_played(input: Input) -> Option<Vec<u8>>
 
 /// Plays a schedule that was read, over the nodes that start from the disks, and writes what comes
 /// of it. Place `n` of the disks is shard `n`'s, place `16 + n` is router `n`'s; all are at their
-/// places again behind it.
+/// places again after it.
 pub fn play_input<K: Sink, D: Disk>(
     alloc: Global,
     input: Input,

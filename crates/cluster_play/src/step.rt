@@ -58,7 +58,7 @@ fn may_happen<D: Disk>(world: &DiskWorld<D>, event: &WorldEvent) -> bool
     }
 }
 
-/// What is written of an answer, and what follows; none of want of memory.
+/// What is written of an answer, and what follows; none of out of memory.
 fn took(
     player: &mut Player,
     given: Given,
@@ -76,7 +76,7 @@ fn took(
     player.took(given, answer, text)
 }
 
-/// An event comes to its node: what is written of it is put behind `text`, and what follows. Where
+/// An event comes to its node: what is written of it is put after `text`, and what follows. Where
 /// it can't come, nothing happens.
 pub fn step<D: Disk>(
     player: &mut Player,

@@ -95,7 +95,7 @@ fn act_at<D: Disk>(
     }
 }
 
-/// Does what is wanted; what is written of it is put behind `text`.
+/// Does what is wanted; what is written of it is put after `text`.
 fn act<D: Disk>(
     alloc: Global,
     player: &mut Player,

@@ -1,4 +1,4 @@
--- The list of commits behind a shard's step.
+-- The list of commits after a shard's step.
 use Rattle.std.proofs.Common.{◌≡◌, inl, inr, ◌≤◌, ◌<◌, ◌++◌, ℕ, get_or, ◌+◌, List, [], Option, Some}
 use Rattle.std.proofs.Common.{unwrap_or, map, ap, sym, subst, ◌∙◌, arith, length, take, slice_get}
 use Rattle.std.proofs.Common.{slice_set}
@@ -14,7 +14,7 @@ use Rattle.txn_model.specs.Commits.{Journals}
 use Rattle.cluster_world.specs.World.{records_in, cut_in}
 use Rattle.cluster_world.proofs.Set.{set_there, set_back, get_within, map_set, map_get}
 
--- a step adds records behind those that stood there
+-- a step adds records after those that stood there
 pub record AddsTo (old new : List Rec) : Type 0 where
   pub more : List Rec
   pub is : new ≡ old ++ more

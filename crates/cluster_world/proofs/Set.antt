@@ -72,7 +72,7 @@ map_removed f [] (suc n) = refl
 map_removed f (z ∷ zs) zero = refl
 map_removed f (z ∷ zs) (suc n) = ap (λ ys. f z ∷ ys) (map_removed f zs n)
 
--- behind a write at a place, seen through `f`
+-- after a write at a place, seen through `f`
 pub map_set_at : {A B : Type 0} (f : A → B) (xs : List A) (i n : ℕ) (x : A) (y : B) → i ≡ n
     → f x ≡ y → map f (slice_set xs i x) ≡ slice_set (map f xs) n y
 map_set_at f xs i n x y place is = map_set f xs i x

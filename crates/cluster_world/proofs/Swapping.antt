@@ -132,7 +132,7 @@ shard_starts old n before after new there renews is =
       nodes = is;
     }
 
--- how many nodes there are behind a replacement
+-- how many nodes there are after a replacement
 pub unless_next : {E : Type 0} (old : Nodes) (r : Result (Unit {0}) (error.the_data E))
     (new : Nodes) → AsMany old new → AsManyUnlessNext old r new
 unless_next old (Ok u) new is = is

@@ -87,7 +87,7 @@ pub record AsMany (old new : Nodes) : Type 0 where
   pub shards : length new.shards ≡ length old.shards
   pub routers : length new.routers ≡ length old.routers
 
--- the same behind a replacement, unless no new node was made
+-- the same after a replacement, unless no new node was made
 abbrev pub AsManyUnlessNext : {E : Type 0} → Nodes → Result (Unit {0}) (error.the_data E)
     → Nodes → Type 0
 AsManyUnlessNext old (Ok u) new = AsMany old new

@@ -5,7 +5,7 @@ ghost use Rattle.txn_types.specs.Letters.{given_out};
 use std::alloc::{AllocError, Global};
 use txn_types::{Envelope, NodeAnswer};
 
-/// Puts copies of messages behind others.
+/// Puts copies of messages after others.
 fn put_all(alloc: Global, sent: &mut Vec<Envelope>, out: &[Envelope]) -> Result<(), AllocError>
     ensures { OnOk result (sent.new.items ≡ sent.old.items ++ out.now) }
 {
@@ -15,7 +15,7 @@ fn put_all(alloc: Global, sent: &mut Vec<Envelope>, out: &[Envelope]) -> Result<
     Ok(())
 }
 
-/// Puts copies of what a node gave out behind what was sent before.
+/// Puts copies of what a node gave out after what was sent before.
 pub fn send(alloc: Global, sent: &mut Vec<Envelope>, answer: &NodeAnswer) -> Result<(), AllocError>
     ensures { OnOk result (sent.new.items ≡ sent.old.items ++ given_out answer.now) }
 {

@@ -142,7 +142,7 @@ impl<S: Journalled, R: Routing> World<S, R> {
         }
     }
 
-    /// Writes down what a node answered, behind what happened before.
+    /// Writes down what a node answered, after what happened before.
     fn note(
         &mut self,
         node: NodeId,

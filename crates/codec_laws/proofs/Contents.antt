@@ -187,7 +187,7 @@ least_again zero bit flags k h = absurd (omega (arith, h.above, h.below))
 least_again (suc n) bit flags k h = again_case n bit flags k (has_flag bit flags) (least_flag n
     (bit + 1) flags) refl h (least_again n (bit + 1) flags k)
 
--- What stands behind a header.
+-- What stands after a header.
 
 abbrev flags_in : List ℕ → ℕ
 flags_in bytes = from_le_bytes w32 (take 4 bytes)

@@ -55,7 +55,7 @@ one_front levels read again start end byte name b tail value bytes reads is same
       found.2 end tail,
     ) refl
 
--- a fault behind well-formed elements is that of the elements
+-- a fault after well-formed elements is that of the elements
 front_then : (levels : ℕ) (read : Reader) → ReadsAgain levels read
     → (start end : ℕ) (fields : Document) (e tail : List ℕ) (n : ℕ) (d : BsonErr)
     → length fields < n → ReadsElements (ReadsAt levels) fields e
@@ -414,7 +414,7 @@ has_wrong_count levels end p value e is h =
           (to_le_bytes w32 wrong.0 ++ wrong.1) (is_count end wrong.0 wrong.1 wrong.3) wrong.4)
     ])
 
--- a document by its elements and what is behind them
+-- a document by its elements and what is after them
 abbrev framed_by : List ℕ → ℕ → List ℕ → List ℕ
 framed_by elements last rest = to_le_bytes w32 (length elements + 5) ++ elements ++ last ∷ rest
 
@@ -496,7 +496,7 @@ Tells levels e = (end : ℕ) (elements : List ℕ) (last : ℕ) (rest : List ℕ
     → IsFirst levels e (place end (framed_by elements last rest)) elements last
     → document_at (value_by (nested_at levels)) end (framed_by elements last rest) ≡ Err e
 
--- behind well-formed elements
+-- after well-formed elements
 behind_tells : (levels : ℕ) (e : BsonErr) (There : ℕ → List ℕ
     → Type 0) (end : ℕ) (elements : List ℕ) (last : ℕ) (rest : List ℕ)
     → length (framed_by elements last rest) ≤ end → length elements + 5 < 2 ^ 32
@@ -534,7 +534,7 @@ holds_tells levels e tells end p value is le h =
     (tells end h.0 h.1 h.2 (subst (λ (b : List ℕ). length b ≤ end) h.3 le) h.4
     (subst (λ (k : ℕ). IsFirst levels e k h.0 h.1) start h.5))
 
--- what may stand behind well-formed elements
+-- what may stand after well-formed elements
 abbrev pub Deepest : BsonErr → ℕ → ℕ → List ℕ → Type 0
 Deepest e start place bytes = IsAtHead start place bytes e ⊎ HoldsNest (IsTooDeep e) place bytes
 

@@ -130,7 +130,7 @@ either bytes = elim (cases_lt (length bytes) 16) [
 pub length_fault : (bytes : List ℕ) → (HasItsLength bytes → ⊥) → frame_of bytes ≡ Err message.Length
 length_fault bytes not_its = elim (either bytes) [ inl h ↦ absurd (not_its h) | inr is ↦ is ]
 
--- What is said of a fault behind it.
+-- What is said of a fault after it.
 
 abbrev Said : {A : Type 0} → List ℕ → Result A FrameErr → Type 0
 Said bytes (Ok x) = Unit {0}

@@ -90,7 +90,7 @@ unfolding count_at
 count_ok end bytes x h e =
     number32 bytes x h (no_fault (fault.Length (place end bytes)) (number_at w32 bytes) x e)
 
--- what stands at a place, in front of it and behind it
+-- what stands at a place, in front of it and after it
 split_at : (rest : List ℕ) (n m : ℕ) → m ≡ n + 1 → n < length rest
     → rest ≡ take n rest ++ get_or rest n 0 ∷ drop m rest
 split_at rest n m is lt =
@@ -342,7 +342,7 @@ element_found levels read sound start end byte bytes o h e =
       ),
     )
 
--- what may stand behind well-formed elements, by the levels that are left
+-- what may stand after well-formed elements, by the levels that are left
 abbrev There : ℕ → BsonErr → ℕ → ℕ → List ℕ → Type 0
 There zero e start = Deepest e start
 There (suc levels) e start = Higher levels e start
@@ -441,7 +441,7 @@ element_err levels nests start end (byte ∷ bytes) e input le failed =
           (eqb-false byte 0 more.0) le (input-drop 1 (byte ∷ bytes) input) more.1
     ]
 
--- behind the elements that were read
+-- after the elements that were read
 abbrev BehindThese : ℕ → BsonErr → ℕ → ℕ → List ℕ → Type 0
 BehindThese levels e start end bytes = (fields : Document) × (front : List ℕ)
     × (rest : List ℕ) × ReadsElements (ReadsAt levels) fields front × (bytes ≡ front ++ rest)

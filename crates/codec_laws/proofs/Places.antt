@@ -69,7 +69,7 @@ IsInside whole (fault.Deep at) = at ≤ length whole
 IsInside whole fault.TooLarge = ⊥
 IsInside whole fault.Memory = ⊥
 
--- what was read, and the bytes behind it, or such a fault
+-- what was read, and the bytes after it, or such a fault
 abbrev Sane : {A : Type 0} → List ℕ → ℕ → Field A → Type 0
 Sane whole end (Ok x) = Stands whole end x.1
 Sane whole end (Err e) = IsInside whole e

@@ -17,7 +17,7 @@ abbrev pub number_from : ℕ → List ℕ → ℕ
 number_from place bytes = from_le_bytes w32 (take 4 (drop place bytes))
 
 -- what a document's fault says of the bytes, with a limit on their number: a place is one of
--- theirs, or behind the last; at that of a kind stands the byte, which is no kind's; at that of a
+-- theirs, or after the last; at that of a kind stands the byte, which is no kind's; at that of a
 -- truth value a byte above 1
 abbrev pub IsThere : ℕ → List ℕ → BsonErr → Type 0
 IsThere limit bytes document.Short = Unit {0}
@@ -46,7 +46,7 @@ pub record HasOtherCode (bytes : List ℕ) : Type 0 where
   pub message : op_code bytes ≢ 2013
   pub query : op_code bytes ≢ 2004
 
--- of an OP_MSG's flags, which stand behind its header, this one is the least of those from 2 to 15
+-- of an OP_MSG's flags, which stand after its header, this one is the least of those from 2 to 15
 -- that are set
 pub record IsLeastUnknown (bit : ℕ) (bytes : List ℕ) : Type 0 where
   pub message : op_code bytes ≡ 2013
@@ -61,7 +61,7 @@ pub record IsFramed (bytes : List ℕ) : Type 0 where
   pub whole : HasItsLength bytes
   pub most : length bytes ≤ most_internal
 
--- what a message's fault says of the bytes. Those of the contents come behind the header's
+-- what a message's fault says of the bytes. Those of the contents come after the header's
 abbrev pub IsSaid : List ℕ → FrameErr → Type 0
 IsSaid bytes message.Length = HasItsLength bytes → ⊥
 IsSaid bytes message.TooLarge = HasItsLength bytes × (most_message < length bytes)

@@ -1,5 +1,5 @@
--- The first fault of a document, in the grammar's terms: behind elements that are well formed
--- stands one that isn't, or one whose value holds such a fault; or the last byte is wrong behind
+-- The first fault of a document, in the grammar's terms: after elements that are well formed
+-- stands one that isn't, or one whose value holds such a fault; or the last byte is wrong after
 -- them all. What follows doesn't matter.
 use Rattle.std.specs.Prelude.{◌≡◌, ◌≢◌, ◌⊎◌, ◌<◌, ◌≤◌, min, [], ℕ, zero, suc, ◌+◌, ◌-◌, ◌^◌, true}
 use Rattle.std.specs.Prelude.{false, List, ◌∷◌, ◌++◌, length, None, is_some}
@@ -49,7 +49,7 @@ pub data HasWidth : ℕ → ℕ → Type 0 where
   stamp : HasWidth 17 8
   long : HasWidth 18 8
 
--- a text's count and a binary's are wrong for so many bytes behind them
+-- a text's count and a binary's are wrong for so many bytes after them
 pub data IsWrongCount : ℕ → ℕ → ℕ → Type 0 where
   text_none : {left : ℕ} → IsWrongCount 2 0 left
   text_past : {n left : ℕ} → left < n → IsWrongCount 2 n left
@@ -101,14 +101,14 @@ HasWrongCount e place bytes =
     (e ≡ fault.Length place) × ((length bytes < 4) ⊎ ((n : ℕ) × (rest : List ℕ)
     × (bytes ≡ to_le_bytes w32 n ++ rest) × (n < 2 ^ 32) × ((n < 5) ⊎ (length rest < n - 4))))
 
--- elements behind a count, a last byte, and anything behind it
+-- elements after a count, a last byte, and anything after it
 abbrev pub Holds : (ℕ → List ℕ → ℕ → Type 0) → ℕ → List ℕ → Type 0
 Holds Inside place bytes =
     (elements : List ℕ) × (last : ℕ) × (rest : List ℕ)
     × (bytes ≡ to_le_bytes w32 (length elements + 5) ++ elements ++ last ∷ rest)
     × (length elements + 5 < 2 ^ 32) × Inside place elements last
 
--- behind well-formed elements, with at most so many levels in them
+-- after well-formed elements, with at most so many levels in them
 abbrev pub Behind : ℕ → (ℕ → List ℕ → Type 0) → ℕ → List ℕ → Type 0
 Behind levels There start elements =
     (fields : Document) × (front : List ℕ) × (rest : List ℕ)

@@ -1,5 +1,5 @@
 -- The spelling of a message, in the terms of the pages of the MongoDB wire protocol: of an OP_MSG
--- the section of kind 0 first, those of kind 1 behind it, and no checksum; in the older form an
+-- the section of kind 0 first, those of kind 1 after it, and no checksum; in the older form an
 -- OP_REPLY of one document. Each document is spelt.
 use Rattle.std.specs.Prelude.{◌≡◌, ℕ, List, [], ◌∷◌, ◌++◌, length}
 use Rattle.bson_core.specs.Names.{IsName}

@@ -15,7 +15,7 @@ use std::alloc::{AllocError, Global};
 /// that are too large to be written out; `reads WORDS`, what read_command makes of it; `answers
 /// HEX`, or `answers N bytes`, `answers silent` or
 /// `answers closed N`, what the server answers it; `tell WORDS`, a reply, and `says TEXT`, the text
-/// of its document; `wall N`, the moment of the messages behind it, and `on N`, their connection;
+/// of its document; `wall N`, the moment of the messages after it, and `on N`, their connection;
 /// `new server` and `one serial left`, another server; or a comment, which begins with `#`.
 #[derive(Drop)]
 pub struct Cases {
@@ -147,7 +147,7 @@ impl Cases {
         self.take_state(alloc, line, out)
     }
 
-    /// Takes a line that sets something for the messages behind it.
+    /// Takes a line that sets something for the messages after it.
     fn take_state(&mut self, alloc: Global, line: &str, out: &mut String) -> Result<(), AllocError>
         requires { IsSound self.old.server }
         ensures { OnOk result (IsSound self.new.server) }

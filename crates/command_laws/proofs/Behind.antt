@@ -1,4 +1,4 @@
--- A field or a section behind another of its name changes nothing.
+-- A field or a section after another of its name changes nothing.
 use Rattle.std.proofs.Common.{◌≡◌, ◌⊎◌, inl, inr, ℕ, Bool, true, false, cond, List, [], ◌∷◌, ◌++◌}
 use Rattle.std.proofs.Common.{map, Option, Some, None, is_some, refl, sym, ap, subst, ◌∙◌}
 use Rattle.std.proofs.Common.{append_assoc}
@@ -40,7 +40,7 @@ later_case false true name x field v w names p q h other later =
     other (ap (λ (n : List ℕ). bytes_eq n name) (sym (named x.0 field.0 q)) ∙ p)
 later_case false false name x field v w names p q h other later = later h
 
--- a value behind another of its name doesn't count
+-- a value after another of its name doesn't count
 later_value : (name : List ℕ) (field : List ℕ × Value) (back front : Document)
     → is_among field.0 (names_of front) ≡ true
     → value_of name (front ++ field ∷ back) ≡ value_of name (front ++ back)

@@ -93,7 +93,7 @@ known_again name names more there other =
         ∙ sym (or_left (is_among other names) (is_among other more) same)
     by false is = refl
 
--- A field behind another of its name is none of the first ones.
+-- A field after another of its name is none of the first ones.
 
 first_case : {A : Type 0} (b : Bool) (x : List ℕ × A) (xs ys more others : List (List ℕ × A))
     → (b ≡ true → xs ≡ ys) → (b ≡ false → more ≡ others)
@@ -183,7 +183,7 @@ each_case check true x xs ys more others h k = h
 each_case check false x xs ys more others h k =
     ap (λ (r : Checked). check x >>= λ missing. behind missing r) k
 
--- a field that passes, where those of its name behind it do, changes nothing
+-- a field that passes, where those of its name after it do, changes nothing
 pub ignored : {A : Type 0} (check : List ℕ × A
     → Checked) (field : List ℕ × A) (back front : List (List ℕ × A)) (names : List (List ℕ))
     → check field ≡ Ok None → Passes check field.0 back

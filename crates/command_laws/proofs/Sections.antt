@@ -114,7 +114,7 @@ not_the_list b name true is unlisted = let listed : is_list name ≡ true = subs
     is_list n ≡ true) (named (list_name b) name is) (list_is_listed b) in absurd cc
 not_the_list b name false is unlisted = refl
 
--- behind the body
+-- after the body
 last_value : (name : List ℕ) (field : List ℕ × Value) (body : Document)
     → bytes_eq field.0 name ≡ false → value_of name (body ++ field ∷ []) ≡ value_of name body
 last_value name field body other = other_value name field [] body other

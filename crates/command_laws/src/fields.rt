@@ -12,8 +12,8 @@ ghost use Rattle.command_parse.specs.Commands.{list_name, command_named, common_
 ghost use Rattle.client_cmd.specs.Commands.{request_of};
 ghost use Rattle.command_laws.specs.Fields.{names_of, with_body, with_sections, list_of, is_ignored, free_names, own_free_names};
 
-/// Of one name the first counts: a field of the body behind another of its name changes nothing of
-/// what is asked, nor does a section behind a field or a section of its name.
+/// Of one name the first counts: a field of the body after another of its name changes nothing of
+/// what is asked, nor does a section after a field or a section of its name.
 pub fn the_first_of_a_name_counts()
     ensures field { (wall : ℕ) (frame : Frame) (front back : Document) (field : List ℕ × Value)
         → is_among field.0 (names_of front) ≡ true
@@ -26,7 +26,7 @@ pub fn the_first_of_a_name_counts()
 {}
 
 /// A field that a command takes no notice of changes nothing of what is asked, wherever it stands
-/// behind the command's name. A section of that name is refused, and it isn't looked at where a
+/// after the command's name. A section of that name is refused, and it isn't looked at where a
 /// field stands before it; so there is none here. Such names are those that every command passes
 /// over, and a few of each; a hello passes over all but the common ones.
 pub fn what_is_ignored_changes_nothing()

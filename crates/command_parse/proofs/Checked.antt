@@ -35,7 +35,7 @@ first_none : (a b : Option (List ℕ)) → option_or a b ≡ None → a ≡ None
 first_none None b e = refl
 first_none (Some x) b e = absurd cc
 
--- nothing was missing in the first, nor in those behind it
+-- nothing was missing in the first, nor in those after it
 pub both_checked : {A : Type 0} (check : A → Checked) (x : A) (xs : List A)
     → check_each check (x ∷ xs) ≡ Ok None → (check x ≡ Ok None) × (check_each check xs ≡ Ok None)
 both_checked check x xs e =

@@ -1,4 +1,4 @@
--- A command's fields: which checks are whose, and what is lacking behind one another.
+-- A command's fields: which checks are whose, and what is lacking after one another.
 use Rattle.std.proofs.Common.{◌≡◌, ℕ, Bool, true, false, cond, List, [], ◌∷◌, ◌++◌, Some, refl}
 use Rattle.std.specs.Option.{option_or}
 use Rattle.bson_core.specs.declared.value.Value.{Value}

@@ -371,8 +371,8 @@ fn lacking(alloc: Global, command: Command, frame: &Frame) -> Result<Option<Name
 
 /// Whether the message has the fields that the command has; else its first refusal. The refusals
 /// are as those of
-/// `read_op`, where `lsid` and `txnNumber` are missing behind `$db`, and the end of a transaction
-/// needs `autocommit` behind them.
+/// `read_op`, where `lsid` and `txnNumber` are missing after `$db`, and the end of a transaction
+/// needs `autocommit` after them.
 #[tactic(auto, unfolding(crate::specs::Operations::checked))]
 pub fn check(alloc: Global, command: Command, frame: &Frame) -> Result<(), CrudErr>
     ensures { Gives (λ u. u) result (checked command frame.now) }

@@ -136,7 +136,7 @@ fn build(alloc: Global, statement: Statement, ns: Ns, frame: &Frame) -> Result<O
 }
 
 /// The operation that the message asks for, read as that statement. Its fields are those of the
-/// body, and behind them the sections; of one name the first counts, and the others aren't looked
+/// body, and after them the sections; of one name the first counts, and the others aren't looked
 /// at.
 ///
 /// Otherwise the first refusal is answered that is met front to back: `UnknownField` for a field

@@ -57,7 +57,7 @@ no_more plan before (ballot ∷ ballots) h =
     (none_first (takes_part ballot.0 plan) (list_any (eqb ballot.0) before) (h ballot.0))
     ∙ no_more plan before ballots h
 
--- the outcome of votes behind timestamps that are known
+-- the outcome of votes after timestamps that are known
 abbrev outcome_behind : List (ℕ × ℕ) → Plan → List Ballot → Option Decision
 outcome_behind known plan [] = None
 outcome_behind known plan (vote ∷ votes) =

@@ -71,7 +71,7 @@ forgotten key tag entries coords k e ordered =
     ∙ ap (λ (s : Coordinations). taken_out tag_cmp key s) e
     ∙ ap (λ (t : Tag). taken_out tag_cmp t coords) k
 
--- behind an acknowledgement that is the last, and behind another one
+-- after an acknowledgement that is the last, and after another one
 last_case : (b a : Bool) (gone kept coords : Coordinations) → (b && a) ≡ true
     → cond b (cond a gone kept) coords ≡ gone
 last_case true true gone kept coords h = refl
@@ -95,7 +95,7 @@ pub others_keep : (tag : Tag) (shard : ℕ) (c : Coordinated) (coords : Coordina
 others_keep tag shard c coords h = other_case (ack_counts shard c) (all_acked (with_ack shard c))
     (taken_out tag_cmp tag coords) (with_coordinated tag (with_ack shard c) coords) coords h
 
--- what is coordinated under a tag and under others, behind a change
+-- what is coordinated under a tag and under others, after a change
 pub at_the_tag : (tag : Tag) (c : Coordinated) (coords : Coordinations)
     → coordinated_of (with_coordinated tag c coords) tag ≡ Some c
 at_the_tag tag c coords = ap (λ (o : Option (Tag × Coordinated)).
@@ -117,7 +117,7 @@ pub either : (P : Coordinations → Type 0) (b : Bool) (xs ys : Coordinations) �
 either P true xs ys p q = p
 either P false xs ys p q = q
 
--- what stands behind an acknowledgement that isn't the last
+-- what stands after an acknowledgement that isn't the last
 pub decision_left : (b : Bool) (tag : Tag) (shard : ℕ) (c : Coordinated) (coords : Coordinations)
     (d : Decision) → c.decision ≡ Some d → coordinated_of coords tag ≡ Some c
     → IsSomeAnd (coordinated_of (cond b (with_coordinated tag (with_ack shard c) coords) coords)

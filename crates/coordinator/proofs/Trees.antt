@@ -124,7 +124,7 @@ module _ {K A : Type 0} (cmp : K → K → Ordering) (total : IsTotalOrder cmp)
   removed key (row ∷ rows) r = removed_case key row rows (remove_entry (is_at (cmp key)) rows)
       (cmp key row.0) refl r (none_removed key rows) (removed key rows r.1)
 
-  -- what is found under a key behind a change there, and under another key
+  -- what is found under a key after a change there, and under another key
   abbrev at_key : K → K × A → Bool
   at_key key row = is_eq (cmp row.0 key)
 

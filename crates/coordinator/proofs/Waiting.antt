@@ -74,7 +74,7 @@ is_raised n (suc i) (false ∷ flags) =
     ap (λ (k : ℕ). list_any (eqb k) (numbers_from (n + 1) flags)) (sym e)
     ∙ is_raised (n + 1) i flags
 
--- behind the last flag there is none
+-- after the last flag there is none
 pub past : (flags : List Bool) (i : ℕ) → length flags ≤ i → get_or flags i false ≡ false
 past [] i h = refl
 past (b ∷ flags) zero h = absurd (omega arith)

@@ -15,7 +15,7 @@ use Rattle.coordinator.specs.TwoPhase.{Coordinated, takes_part, counts, behind_v
 abbrev pub Ballot : Type 0
 Ballot = ℕ × Result ℕ Cause
 
--- a coordination behind votes that arrive one after the other
+-- a coordination after votes that arrive one after the other
 abbrev pub heard : List Ballot → Coordinated → Coordinated
 heard [] c = c
 heard (ballot ∷ ballots) c =

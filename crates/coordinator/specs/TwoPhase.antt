@@ -60,7 +60,7 @@ with_asker router c = record c { askers = put_number router c.askers }
 abbrev pub is_asker : ℕ → Coordinated → Bool
 is_asker router c = list_any (nat_eq router) c.askers
 
--- behind a router's question; one that a decision answers changes nothing
+-- after a router's question; one that a decision answers changes nothing
 abbrev pub asked : Tag → ℕ → Coordinated → Coordinations → Coordinations
 asked tag router c coords = if is_none c.decision
     then with_coordinated tag (with_asker router c) coords else coords
@@ -95,13 +95,13 @@ with_vote shard at c = record c { votes = c.votes ++ (shard, at) ∷ [] }
 abbrev pub with_decision : Option Decision → Coordinated → Coordinated
 with_decision decision c = record c { decision = decision }
 
--- behind a vote that counts
+-- after a vote that counts
 abbrev pub behind_vote : ℕ → Result ℕ Cause → Coordinated → Coordinated
 behind_vote shard (Err cause) c = with_decision (Some (decision.Abort shard (cause_number cause))) c
 behind_vote shard (Ok at) c =
     with_decision (commit_by (with_vote shard at c)) (with_vote shard at c)
 
--- behind a vote; one that doesn't count changes nothing
+-- after a vote; one that doesn't count changes nothing
 abbrev pub voted : Tag → ℕ → Result ℕ Cause → Coordinated → Coordinations → Coordinations
 voted tag shard vote c coords = if counts shard c
     then with_coordinated tag (behind_vote shard vote c) coords else coords
@@ -131,13 +131,13 @@ all_acked c = list_all (λ part. has_acked part.0 c) c.plan.parts
 abbrev pub is_last_ack : ℕ → Coordinated → Bool
 is_last_ack shard c = ack_counts shard c && all_acked (with_ack shard c)
 
--- behind an acknowledgement that counts: once all have the decision the transaction is forgotten
+-- after an acknowledgement that counts: once all have the decision the transaction is forgotten
 abbrev pub behind_ack : Tag → ℕ → Coordinated → Coordinations → Coordinations
 behind_ack tag shard c coords =
     if all_acked (with_ack shard c) then taken_out tag_cmp tag coords
     else with_coordinated tag (with_ack shard c) coords
 
--- behind an acknowledgement; one that doesn't count changes nothing
+-- after an acknowledgement; one that doesn't count changes nothing
 abbrev pub acked : Tag → ℕ → Coordinated → Coordinations → Coordinations
 acked tag shard c coords = if ack_counts shard c then behind_ack tag shard c coords else coords
 

@@ -5,7 +5,7 @@ use Rattle.outcomes.specs.Outcome as outcome
 use Rattle.crud_parse.specs.declared.error.CrudErr.{CrudErr}
 use Rattle.crud_parse.specs.declared.error.CrudErr.TheVariants.{Memory}
 
--- want of memory, which no function on lists answers
+-- out of memory, which no function on lists answers
 abbrev pub is_memory : CrudErr → Bool
 is_memory Memory = true
 is_memory e = false
@@ -14,7 +14,7 @@ is_memory e = false
 abbrev pub Gives : {X Y : Type 0} → (X → Y) → Result X CrudErr → Result Y CrudErr → Type 0
 Gives view result read = outcome.Gives is_memory view result read
 
--- what was read before, and what is read behind it
+-- what was read before, and what is read after it
 abbrev pub with_front : {B : Type 0} → List B → Result (List B) CrudErr → Result (List B) CrudErr
 with_front front read = read >>= λ ys. Ok (front ++ ys)
 

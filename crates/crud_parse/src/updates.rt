@@ -60,7 +60,7 @@ fn read_field_op(
     })
 }
 
-/// These operations, and behind them those on the fields.
+/// These operations, and after them those on the fields.
 fn and_ops(
     alloc: Global,
     mut ops: Vec<UpdateOp>,
@@ -76,7 +76,7 @@ fn and_ops(
     Ok(ops)
 }
 
-/// These operations, and behind them those on the fields in the operator's value.
+/// These operations, and after them those on the fields in the operator's value.
 fn and_operator(
     alloc: Global,
     ops: Vec<UpdateOp>,

@@ -1,4 +1,4 @@
--- A part behind the end of a transaction.
+-- A part after the end of a transaction.
 use Rattle.std.proofs.Common.{◌≡◌, ◌≤◌, ℕ, Bool, true, false, cond, not, List, [], ◌∷◌, Some, None}
 use Rattle.std.proofs.Common.{filter, refl, ap, subst, ◌∙◌, sym, arith, ◌||◌}
 use Rattle.std.specs.List.{list_any}

@@ -1,4 +1,4 @@
--- What is coordinated, without votes and those that wait, behind each change.
+-- What is coordinated, without votes and those that wait, after each change.
 use Rattle.std.proofs.Common.{◌≡◌, ℕ, ◌&&◌, Bool, true, false, cond, List, [], ◌∷◌, find, Option}
 use Rattle.std.proofs.Common.{Some, None, is_none, option_map, Result, Ok, Err, refl, ap, ◌∙◌, sym}
 use Rattle.std.proofs.Common.{if◌then◌else◌}

@@ -1,4 +1,4 @@
--- A part behind each event but a statement.
+-- A part after each event but a statement.
 use Rattle.std.proofs.Common.{◌≡◌, ◌<◌, ◌-◌, ℕ, Bool, true, false, List, [], ◌∷◌, Option, Some}
 use Rattle.std.proofs.Common.{None, refl, ap, subst, ◌∙◌, sym, arith, nat_eq, nat_le, nat_lt}
 use Rattle.std.proofs.Common.{int_lt, if◌then◌else◌}

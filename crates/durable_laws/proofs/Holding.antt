@@ -25,7 +25,7 @@ pub record HoldsPart (i : Image) (p : Part) : Type 0 where
       → HasSession p lsid recorded × (recorded.state ≡ state.Live → ⊥)
   pub recorded : AreRecorded i.sessions p
 
--- behind a record, if there is one
+-- after a record, if there is one
 abbrev pub behind : Image → Option Rec → Image
 behind i None = i
 behind i (Some r) = with_record i r

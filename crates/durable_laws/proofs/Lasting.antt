@@ -1,4 +1,4 @@
--- Stores, place by place: what of them outlives a stop, behind each change.
+-- Stores, place by place: what of them outlives a stop, after each change.
 use Rattle.std.proofs.Common.{◌≡◌, Bool, true, false, cond, List, [], ◌∷◌, Option, Some, None}
 use Rattle.std.proofs.Common.{filter, map, unwrap_or, refl, ap, ◌∙◌, sym}
 use Rattle.std.specs.Option.{is_some}

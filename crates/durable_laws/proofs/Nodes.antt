@@ -200,7 +200,7 @@ either_left : {A : Type 0} {recs now all : A} → (recs ≡ now) ⊎ (recs ≡ a
 either_left (inl is) same = is
 either_left (inr is) same = is ∙ same
 
--- behind a step of a node that ran, what is left holds just that state
+-- after a step of a node that ran, what is left holds just that state
 left_backed : (old : NodeState) (e : NodeEvent) (room : Room) (a : NodeAnswer) (new : NodeState)
     (recs : List Rec) → IsDurableNode old → old.core.stopped ≡ None
     → (done : Appended old (core_step room old.core e) a new

@@ -1,4 +1,4 @@
--- A part behind a statement that is done or refused.
+-- A part after a statement that is done or refused.
 use Rattle.std.proofs.Common.{◌≡◌, ◌≤◌, ◌++◌, ℕ, Bool, true, false, cond, not, List, [], ◌∷◌}
 use Rattle.std.proofs.Common.{Option, Some, None, IfSome, find, map, option_map, unwrap_or, refl}
 use Rattle.std.proofs.Common.{ap, subst, ◌∙◌, sym, arith, if◌then◌else◌}

@@ -1,4 +1,4 @@
--- The versions of a place behind each change: newest first, and those that outlive a stop.
+-- The versions of a place after each change: newest first, and those that outlive a stop.
 use Rattle.std.proofs.Common.{◌≡◌, ◌≤◌, ◌<◌, ℕ, Bool, true, false, cond, not, List, [], ◌∷◌, Option}
 use Rattle.std.proofs.Common.{Some, None, IsSomeAnd, filter, find, map, option_map, unwrap_or, refl}
 use Rattle.std.proofs.Common.{ap, subst, ◌∙◌, sym, arith, if◌then◌else◌}

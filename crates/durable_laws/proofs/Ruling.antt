@@ -1,4 +1,4 @@
--- A shard's state behind the rule of a message: the records' state backs it, with the rule's
+-- A shard's state after the rule of a message: the records' state backs it, with the rule's
 -- record.
 use Rattle.std.proofs.Common.{◌≡◌, ◌≤◌, ℕ, ℤ, Bool, true, false, Option, Some, None, IfSome, refl}
 use Rattle.std.proofs.Common.{ap, ◌∙◌, sym, nat_eq, if◌then◌else◌}

@@ -1,4 +1,4 @@
--- A part behind a statement.
+-- A part after a statement.
 use Rattle.std.proofs.Common.{◌≡◌, ◌≤◌, ◌<ℤ◌, ◌⊎◌, inl, inr, ◌||◌, ◌&&◌, ℕ, Bool, true, false, cond}
 use Rattle.std.proofs.Common.{not, List, [], ◌∷◌, Option, Some, None, IsSomeAnd, IfSome, Result, Ok}
 use Rattle.std.proofs.Common.{Err, refl, ap, subst, ◌∙◌, sym, arith, nat_eq, nat_lt, int_lt}

@@ -67,7 +67,7 @@ abbrev pub bound_record : Option ℕ → Option Rec
 bound_record None = None
 bound_record (Some bound) = Some (rec.Ceiling bound)
 
--- the state behind a ceiling
+-- the state after a ceiling
 abbrev pub raised_image : Image → Option ℕ → Image
 raised_image i bound = behind i (bound_record bound)
 
@@ -110,7 +110,7 @@ met_backed : (i : Image) (s : ShardState) (e : Envelope) → Backs i s
 met_backed i s e b = met_case i s (reached s e) e.time (read_at_of e.msg) (nat_lt s.clock.ceiling
     (reached s e)) refl (reach_small s.clock.last s.wall e.time (read_at_of e.msg)) b
 
--- behind its ceiling and its record
+-- after its ceiling and its record
 abbrev pub BacksStep : Image → CoreStep → Type 0
 BacksStep i o = Backs (behind (raised_image i o.ceiling) o.rec) o.core × IfSome o.rec IsWritten
 

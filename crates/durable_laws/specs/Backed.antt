@@ -71,7 +71,7 @@ abbrev pub kept_state : ShardState → CoreStep → List (List Rec) → ShardSta
 kept_state s o [] = s
 kept_state s o (kept ∷ more) = at_ceiling s o
 
--- what they hold with the one that failed: the state behind the step, or with its ceiling where a
+-- what they hold with the one that failed: the state after the step, or with its ceiling where a
 -- record was to follow
 abbrev pub lost_state : ShardState → CoreStep → List (List Rec) → ShardState
 lost_state s o [] = o.core
@@ -108,7 +108,7 @@ pub record IsDurableNode (n : NodeState) : Type 0 where
 abbrev pub IsLeft : NodeState → List Rec → Type 0
 IsLeft n recs = (recs ≡ n.records) ⊎ (recs ≡ n.records ++ n.hand)
 
--- the state that these records hold behind a step of a node that ran: the state behind the step;
+-- the state that these records hold after a step of a node that ran: the state after the step;
 -- or, where an append failed, what the appends before it hold, or what they hold with it
 abbrev pub left_state : (old : NodeState) (o : CoreStep) (a : NodeAnswer) (new : NodeState)
     (recs : List Rec) → Appended old o a new ⊎ Failed old o a new → IsLeft new recs → ShardState

@@ -15,14 +15,14 @@ ghost use Rattle.durable_laws.specs.Backed.{IsShard, IsBacked, kept_state, lost_
 
 use shard_core::laws::a_record_can_follow;
 
-/// A shard's part stays of one piece behind each step, whatever the event names: statement, commit,
-/// preparation, decision, abort, recovery, expiry, or want of memory that is told.
+/// A shard's part stays of one piece after each step, whatever the event names: statement, commit,
+/// preparation, decision, abort, recovery, expiry, or out of memory that is told.
 pub fn a_step_keeps_its_part()
     ensures { (room : Room) (s : ShardState) (e : NodeEvent) → IsShard s
         → IsShard (core_step room s e).core }
 {}
 
-/// What a shard's records hold of it stays so behind each step, with all that it appends, whatever
+/// What a shard's records hold of it stays so after each step, with all that it appends, whatever
 /// the event names; and the writes of what it appends rise.
 pub fn a_step_is_durable()
     ensures backed { (room : Room) (s : ShardState) (e : NodeEvent) (recs : List Rec)
@@ -34,7 +34,7 @@ pub fn a_step_is_durable()
 
 /// Where an append fails, the records then hold the state before the step, or that with the step's
 /// ceiling where the ceiling's append was made; with the records in hand they hold the state with
-/// the step's ceiling, where its record was still to follow, or else the state behind the step.
+/// the step's ceiling, where its record was still to follow, or else the state after the step.
 pub fn a_failed_append_is_durable()
     ensures { (old : NodeState) (e : NodeEvent) (room : Room) (a : NodeAnswer) (new : NodeState)
         (f : Failed old (core_step room old.core e) a new) → IsBacked old.records old.core
@@ -56,8 +56,8 @@ pub fn a_start_is_durable()
 
 /// A node keeps it: what it takes leaves a durable node, stopped or not; a start makes one; and
 /// where what a stop of the machine left of one is started again, the new node is durable and finds
-/// again the state that these records hold. Behind a step of a node that ran that is the state
-/// behind the step, or, where an append failed, that of the appends made.
+/// again the state that these records hold. After a step of a node that ran that is the state
+/// after the step, or, where an append failed, that of the appends made.
 pub fn a_node_is_durable()
     ensures takes { (old : NodeState) (e : NodeEvent) (a : NodeAnswer) (new : NodeState)
         → ShardTakes old e a new → IsDurableNode old → IsDurableNode new }

@@ -52,7 +52,7 @@ impl Cases {
         write!(out, "line {line}: {found}\n    and not {wanted}\n")
     }
 
-    /// Sets up what the lines behind it are about, and tells whether it could.
+    /// Sets up what the lines after it are about, and tells whether it could.
     fn set(&mut self, alloc: Global, line: &str) -> Result<bool, AllocError> {
         if let Some(number) = line.strip_prefix("room ") {
             return Ok(self.standing.set_room(number));

@@ -8,11 +8,11 @@ use Rattle.std.specs.Int.{w32, to_le_bytes, from_le_bytes}
 abbrev pub header : List ℕ
 header = codes "MTX JOURNAL 0001"
 
--- what stands behind a frame's gate
+-- what stands after a frame's gate
 abbrev pub body : List ℕ → List ℕ
 body payload = to_le_bytes w32 (length payload) ++ payload
 
--- frames of these payloads, one behind the other
+-- frames of these payloads, one after the other
 abbrev pub spell : List (List ℕ) → List ℕ
 spell [] = []
 spell (payload ∷ payloads) = 165 ∷ body payload ++ spell payloads
@@ -22,11 +22,11 @@ abbrev pub AreShort : List (List ℕ) → Type 0
 AreShort [] = Unit {0}
 AreShort (payload ∷ payloads) = (length payload < 2 ^ 32) × AreShort payloads
 
--- the file of these payloads with nothing behind its end gate 00
+-- the file of these payloads with nothing after its end gate 00
 abbrev pub at_rest : List (List ℕ) → List ℕ
 at_rest payloads = header ++ spell payloads ++ 0 ∷ []
 
--- the place of the gate behind these payloads' frames
+-- the place of the gate after these payloads' frames
 abbrev pub end_of : List (List ℕ) → ℕ
 end_of payloads = 16 + length (spell payloads)
 
@@ -39,7 +39,7 @@ abbrev pub joined : List ℕ → Result (List (List ℕ)) ℕ → Result (List (
 joined payload (Ok payloads) = Ok (payload ∷ payloads)
 joined payload (Err place) = Err place
 
--- the payload of the frame at a place, with these bytes behind its gate, in front of those that
+-- the payload of the frame at a place, with these bytes after its gate, in front of those that
 -- follow; or the place, where the frame and a next gate don't fit
 abbrev pub framed : ℕ → List ℕ → Result (List (List ℕ)) ℕ → Result (List (List ℕ)) ℕ
 framed place bytes following =

@@ -7,7 +7,7 @@ ghost use Rattle.journal_core.specs.Left.{Begins};
 
 use outside_core::{Disk, DiskErr};
 
-/// Puts length, payload and a gate 00 behind the gate at `end`, the last byte of the file.
+/// Puts length, payload and a gate 00 after the gate at `end`, the last byte of the file.
 pub fn stage<D: Disk>(disk: &mut D, end: u64, payload: &[u8]) -> Result<(), DiskErr>
     requires place { end + 1 < 2 ^ 64 }
     requires length { length payload.now < 2 ^ 32 }

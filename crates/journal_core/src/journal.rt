@@ -106,7 +106,7 @@ impl<D: Disk> Journal<D> {
         self.count
     }
 
-    /// The place behind the last frame.
+    /// The place after the last frame.
     pub fn end(&self) -> u64
         ensures value { result ≡ self.now.end }
         ensures frames { IsTrue (D.tells self.now.disk) → self.now.closed ≡ false

@@ -10,7 +10,7 @@ pub fn frames_are_read()
         → payloads_of (header ++ spell frames ++ gate ∷ rest) ≡ Ok frames }
 {}
 
-/// Behind frames a gate A5 whose frame and next gate don't fit is the byte at fault.
+/// After frames a gate A5 whose frame and next gate don't fit is the byte at fault.
 pub fn an_unfit_frame_is_refused()
     ensures { (frames : List (List ℕ)) (rest : List ℕ) → AreShort frames
         → length rest ≤ 4 + told_length rest

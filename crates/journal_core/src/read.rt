@@ -37,7 +37,7 @@ fn read_bytes<D: Disk>(
     }
 }
 
-/// Appends the payload of the frame at this place, and answers the place behind it.
+/// Appends the payload of the frame at this place, and answers the place after it.
 pub fn read_frame<D: Disk>(
     disk: &mut D,
     place: u64,

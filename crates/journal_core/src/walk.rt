@@ -98,7 +98,7 @@ fn look_at_gate<D: Disk>(disk: &mut D, end: u64, len: u64) -> Result<Gate, Journ
     Ok(Gate::Frame(size))
 }
 
-/// Goes over the gates of a file of this length, behind its header.
+/// Goes over the gates of a file of this length, after its header.
 pub fn walk<D: Disk>(disk: &mut D, len: u64) -> Result<Found, JournalErr>
     requires long { 17 < len }
     requires length { IsTrue (D.tells disk.old) → length (D.seen disk.old) ≡ len }

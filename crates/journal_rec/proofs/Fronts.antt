@@ -1,4 +1,4 @@
--- What stands in front once parts were written one behind the other, and what stands behind a place
+-- What stands in front once parts were written one after the other, and what stands after a place
 -- then.
 use Rattle.std.proofs.Common.{◌≡◌, ◌≤◌, ℕ, List, ◌++◌, length, take, drop, ap, sym, subst, ◌∙◌}
 use Rattle.std.proofs.Common.{append_assoc}
@@ -19,7 +19,7 @@ three_put start front more whole r s t a b d e h k x y z =
     ∙ append_assoc start (a ++ b) t
     ∙ ap (λ (xs : List ℕ). start ++ ((a ++ b) ++ xs)) z
 
--- what was written from a place to the end stands behind it
+-- what was written from a place to the end stands after it
 pub written_behind : (n end : ℕ) (old new bytes : List ℕ) → n ≤ length old → length new ≡ end
     → take end new ≡ take n old ++ bytes → drop n new ≡ bytes
 written_behind n end old new bytes h e is =

@@ -1,4 +1,4 @@
--- A record's bytes are those in front and those behind it.
+-- A record's bytes are those in front and those after it.
 use Rattle.std.proofs.Common.{◌≡◌, ◌++◌, refl, sym, append-nil}
 use Rattle.journal_rec.specs.Spelling.{record_bytes, front_bytes, body_bytes}
 use Rattle.journal_rec.specs.declared.record.Rec.{Rec}

@@ -11,7 +11,7 @@ abbrev pub from_document : ℕ → BsonErr → RecErr
 from_document at document.Memory = Memory
 from_document at fault = Bson at
 
--- want of memory, which no definition answers
+-- out of memory, which no definition answers
 abbrev pub is_memory : RecErr → Bool
 is_memory Memory = true
 is_memory other = false

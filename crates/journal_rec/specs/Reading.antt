@@ -1,4 +1,4 @@
--- Reading a record front to back, as functions on lists: a field and the bytes behind it, or the
+-- Reading a record front to back, as functions on lists: a field and the bytes after it, or the
 -- first fault, with its place. `end` is how many bytes the record has, so the bytes that are left
 -- begin at the place `end - length bytes`.
 use Rattle.std.specs.Prelude.{ℕ, ℤ, zero, suc, ◌+◌, ◌-◌, ◌==◌, ◌&&◌, Bool, true, false, not, List}
@@ -35,7 +35,7 @@ use Rattle.journal_rec.specs.declared.record.Decided.{Decided}
 use Rattle.journal_rec.specs.declared.record.Rec.{Rec}
 use Rattle.journal_rec.specs.declared.record.Rec.TheVariants as rec
 
--- a field and the bytes behind it, or the first fault
+-- a field and the bytes after it, or the first fault
 abbrev pub Found : Type 0 → Type 0
 Found A = Result (A × List ℕ) RecErr
 
@@ -137,7 +137,7 @@ part_at bytes = do
   boot ← number_of w32 shard.1
   Ok ((shard.0, boot.0), boot.1)
 
--- so many participants more, behind those in front
+-- so many participants more, after those in front
 unfoldable pub parts_at : ℕ → List (ℕ × ℕ) → List ℕ → Found (List (ℕ × ℕ))
 parts_at zero front bytes = Ok (front, bytes)
 parts_at (suc n) front bytes = part_at bytes >>= λ part. parts_at n (front ++ part.0 ∷ []) part.1
@@ -208,7 +208,7 @@ is_above (Some last) write = is_lt (place_cmp (place_of last) (place_of write))
 abbrev pub last_of : List Write → Option Write
 last_of writes = slice_get writes (length writes - 1)
 
--- one write more behind those in front; the fault of one that isn't above the last stands at its
+-- one write more after those in front; the fault of one that isn't above the last stands at its
 -- first byte
 unfoldable pub next_write_at : ℕ → List Write → List ℕ → Found (List Write)
 next_write_at end front bytes = do

@@ -79,7 +79,7 @@ record_bytes (rec.CoordEnd tag) = 8 ∷ tag_bytes tag
 record_bytes (rec.Floor floor) = 9 ∷ time_bytes floor
 
 -- A record's bytes in two parts: what stands in front, at most 64 bytes, and the writes or the
--- participants behind it.
+-- participants after it.
 
 abbrev pub parts_bytes : List (ℕ × ℕ) → List ℕ
 parts_bytes parts = to_le_bytes w16 (length parts) ++ each_part_bytes parts

@@ -1,4 +1,4 @@
-//! The writes of a record: each reader gives what it found and the bytes behind it.
+//! The writes of a record: each reader gives what it found and the bytes after it.
 ghost use Rattle.std.specs.Prelude.{◌≡◌, ◌+◌, ◌-◌, [], Some, None, false, true, length, IfOk, MatchOption, option_copied, if◌then◌else◌};
 ghost use Rattle.std.specs.Str.{is_utf8};
 ghost use Rattle.bson_core.specs.declared.error.BsonErr.{BsonErr as AnyBsonErr};
@@ -125,7 +125,7 @@ fn write_of(alloc: Global, at: u64, ns: Ns, kind: u8, doc: Doc) -> Result<Write,
     Ok(Write::Delete { ns, id })
 }
 
-/// A write behind its namespace and its kind.
+/// A write after its namespace and its kind.
 #[tactic(auto, unfolding(crate::specs::Reading::content_at))]
 fn read_content(
     alloc: Global,
@@ -189,7 +189,7 @@ fn is_above(last: Option<&Write>, write: &Write) -> bool
     }
 }
 
-/// One write more behind those in front.
+/// One write more after those in front.
 #[tactic(auto, unfolding(crate::specs::Reading::next_write_at))]
 fn read_next(
     alloc: Global,

@@ -10,7 +10,7 @@ pub enum RecErr {
     Kind { byte: u8 },
     /// The bytes end before a field does.
     Short,
-    /// Behind the record, from there on, bytes are left.
+    /// After the record, from there on, bytes are left.
     Extra { at: u64 },
     /// The byte there is none that the field may have; or a write begins there whose namespace is
     /// none, or a document that a write can't have: without an `_id` that is an id, or of a deleted

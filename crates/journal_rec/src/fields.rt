@@ -1,4 +1,4 @@
-//! Fields of records: each reader gives what it found and the bytes behind it.
+//! Fields of records: each reader gives what it found and the bytes after it.
 ghost use Rattle.std.specs.Prelude.{◌≡◌, ◌+◌, ◌≤◌, [], length};
 ghost use Rattle.journal_rec.specs.Errors.{Gives};
 ghost use Rattle.journal_rec.specs.Reading.{tag_at, client_at, own_at, lsid_at, named_at, commit_at, abort_at, decision_at, part_at, parts_at};

@@ -6,7 +6,7 @@ ghost use Rattle.journal_rec.specs.Spelling.{tag_bytes, own_bytes, lsid_bytes, n
 use crate::record::{Decided, Rec};
 use txn_types::{Decision, Lsid, Tag, Ts};
 
-/// Writes bytes from a place on, and gives the place behind them.
+/// Writes bytes from a place on, and gives the place after them.
 fn put(out: &mut [u8], at: usize, bytes: &[u8]) -> usize
     requires { at + length bytes.now ≤ length out.old }
     ensures place { result ≡ at + length bytes.now }
@@ -116,7 +116,7 @@ pub fn decision_array(decision: &Decision) -> [u8; 12]
     bytes
 }
 
-/// Writes the kind of a record at a place, and gives the place behind it.
+/// Writes the kind of a record at a place, and gives the place after it.
 fn put_kind(out: &mut [u8], at: usize, kind: u8) -> usize
     requires { at + 1 ≤ length out.old }
     ensures place { result ≡ at + 1 }

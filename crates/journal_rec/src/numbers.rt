@@ -1,5 +1,5 @@
 //! Numbers and bytes at the front of what is left of a record. Each reader gives what it found and
-//! the bytes behind it.
+//! the bytes after it.
 ghost use Rattle.std.specs.Prelude.{◌≡◌, ◌==◌, not, position, ◌<◌, ◌≤◌, length, IfOk, IfSome};
 ghost use Rattle.std.specs.Int.{w16, w32, w64};
 ghost use Rattle.journal_rec.specs.Errors.{Gives};
@@ -86,7 +86,7 @@ fn first_other(bytes: &[u8]) -> Option<usize>
     bytes.iter().position(|b| *b != 0)
 }
 
-/// So many zeros; gives the bytes behind them.
+/// So many zeros; gives the bytes after them.
 #[tactic(auto, unfolding(crate::specs::Reading::zeros_at))]
 pub fn read_zeros(end: u64, count: usize, bytes: &[u8]) -> Result<&[u8], RecErr>
     ensures { Gives (λ x. x.now) result (zeros_at end count bytes.now) }

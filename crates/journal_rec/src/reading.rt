@@ -141,7 +141,7 @@ fn read_floor(bytes: &[u8]) -> Result<(Rec, &[u8]), RecErr>
     Ok((Rec::Floor { floor: Ts(floor) }, rest))
 }
 
-/// A record of this kind, and the bytes behind it.
+/// A record of this kind, and the bytes after it.
 #[tactic(auto, unfolding(crate::specs::Reading::fields_at))]
 fn read_fields(alloc: Global, kind: u8, end: u64, bytes: &[u8]) -> Result<(Rec, &[u8]), RecErr>
     ensures { Gives (λ x. (x.0, x.1.now)) result (fields_at kind end bytes.now) }

@@ -261,7 +261,7 @@ fn put_record(alloc: Global, out: &mut Vec<u8>, rec: &Rec) -> Result<(), AllocEr
     }
 }
 
-/// Appends the bytes of writes, as they stand in a record. It is refused for want of memory alone,
+/// Appends the bytes of writes, as they stand in a record. It is refused only out of memory,
 /// which is also the answer for writes of more than 2,147,483,647 bytes.
 pub fn encode_writes(alloc: Global, writes: &[Write], out: &mut Vec<u8>) -> Result<(), RecErr>
     ensures ok { OnOk result (out.new.items ≡ out.old.items ++ writes_bytes writes.now) }
@@ -280,7 +280,7 @@ pub fn encode_parts(parts: &Parts, out: &mut Vec<u8>) -> Result<(), RecErr>
     Ok(())
 }
 
-/// Appends the record's bytes, in its one spelling. It is refused for want of memory alone, which
+/// Appends the record's bytes, in its one spelling. It is refused only out of memory, which
 /// is also the answer for writes of more than 2,147,483,647 bytes.
 pub fn encode(alloc: Global, rec: &Rec, out: &mut Vec<u8>) -> Result<(), RecErr>
     ensures ok { OnOk result (out.new.items ≡ out.old.items ++ record_bytes rec.now) }

@@ -455,7 +455,7 @@ answers_out : (P : Named → Type 0) (B : ℕ → ℕ → Named → Type 0) (s :
 answers_out P B s out None h = gives_known P B s out h
 answers_out P B s out (Some held) h = All-nil (EnvKnown B (Answered P s.part))
 
--- behind what has expired, and a message's times
+-- after what has expired, and a message's times
 rules : (P : Named → Type 0) (B : ℕ → ℕ → Named → Type 0) (old s : ShardState) (bound : Option ℕ)
     (r : Ruled) → Moves P old.part s.part → RuledKnown P B s r → StepKnown P B old (stepped bound r)
 rules P B old s bound r k h = record {
@@ -500,7 +500,7 @@ happens P B A s e what.Resend this b n c = record {
 }
 happens P B A s e what.Moment this b n c = calm P B s e c
 
--- want of memory
+-- out of memory
 
 abbrev WantsKnown : (Named → Type 0) → (ℕ → ℕ → Named → Type 0) → ShardState
     → Option Wanting → Type 0

@@ -536,7 +536,7 @@ apart_case shard other waiting true e h k = absurd (clash (is_waited shard waiti
     (subst (λ (n : ℕ). is_waited n waiting ≡ false) (eqb-true other shard e) k))
 apart_case shard other waiting false e h k = e
 
--- behind the answer of a shard that was waited for
+-- after the answer of a shard that was waited for
 next_known : (B : ℕ → ℕ → Named → Type 0) (x : Named) (a : Answer) (o : Result (OpReply × Bool)
     Cause) (parts : List (ℕ × ℕ)) (waiting : List Post) (answers : List (ℕ × Answer))
     → IfOk o (λ done. B a.shard a.boot x)
@@ -927,7 +927,7 @@ this_none : {A : Type 0} (x : Option A) (xs : List (Option A))
 this_none None xs e = refl
 this_none (Some a) xs e = cc
 
--- not busy, not behind its commit, and not known as aborted
+-- not busy, not after its commit, and not known as aborted
 record Serves (s : Option Session) (conn : ℕ) (number : ℤ) : Type 0 where
   busy : busy s conn ≡ None
   sent : after_commit s number ≡ None

@@ -90,7 +90,7 @@ taken_all cmp Q key (row ∷ rows) h =
 abbrev pub AllLive : (Open → Type 0) → Part → Type 0
 AllLive P p = All (λ (entry : Lsid × Open). P entry.1) p.live
 
--- it holds behind a rule
+-- it holds after a rule
 pub record Keeps (P : Open → Type 0) (p q : Part) : Type 0 where
   pub shard : q.shard ≡ p.shard
   pub boot : q.boot ≡ p.boot
@@ -133,7 +133,7 @@ aborted_keeps P p lsid s why = taken P lsid p (aborted p lsid s why) refl refl r
 
 -- Statements.
 
--- it holds behind a statement, where it holds of what this is answered, if it is done
+-- it holds after a statement, where it holds of what this is answered, if it is done
 pub record TurnKeeps (P : Open → Type 0) (p : Part) (m : Statement) (t : stm.Turn) : Type 0 where
   pub shard : t.1.shard ≡ p.shard
   pub boot : t.1.boot ≡ p.boot

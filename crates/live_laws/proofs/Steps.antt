@@ -64,7 +64,7 @@ abbrev pub AnsweredIn : List Envelope → ℕ → ℕ → Open → Type 0
 AnsweredIn sent shard boot o = (e : Envelope) × (a : Answer) × Contains sent e
     × (e.msg ≡ msg.Answer a) × IsAnswerOf shard boot o a
 
--- What holds of each live transaction, and of what is answered, holds behind this.
+-- What holds of each live transaction, and of what is answered, holds after this.
 pub record Lives (P : Open → Type 0) (p q : Part) (a : NodeAnswer) : Type 0 where
   pub shard : q.shard ≡ p.shard
   pub boot : q.boot ≡ p.boot
@@ -287,7 +287,7 @@ happens P s e what.Resend =
     lives P s.part (entered s e).part _ (expire_keeps P s.part (max s.wall e.wall))
 happens P s e what.Moment = calm P s e
 
--- want of memory
+-- out of memory
 
 abbrev EachStep : (Open → Type 0) → ShardState → Option CoreStep → Type 0
 EachStep P s o = IfSome o (StepLives P s)

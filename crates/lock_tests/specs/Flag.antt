@@ -5,7 +5,7 @@ use Rattle.lock_tests.specs.declared.flag.Ask.TheVariants.{Wait, Set}
 use Rattle.lock_tests.specs.declared.flag.Told.{Told}
 use Rattle.lock_tests.specs.declared.flag.Told.TheVariants.{Held, Passed}
 
--- the flag behind a call
+-- the flag after a call
 abbrev pub flag_after : Bool → Ask → Bool
 flag_after flag Set = true
 flag_after flag Wait = flag

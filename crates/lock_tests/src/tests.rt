@@ -17,7 +17,7 @@ fn message(alloc: Global, ask: u8) -> Result<Vec<u8>, AllocError> {
 }
 
 /// The first connection asks for the flag, and is held until the second sets it, whose peer sends
-/// only once the first was held. Served one behind the other, the second's gate would fail behind
+/// only once the first was held. Served one after the other, the second's gate would fail after
 /// 1,000,000 turns.
 #[test]
 fn prepare_wait_small(rt: HostRuntime) -> Result<(), Fail> {

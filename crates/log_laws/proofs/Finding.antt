@@ -39,7 +39,7 @@ no_record : record_of [] ≡ Err Short
 unfolding record_of
 no_record = refl
 
--- so a payload without bytes behind others is the one that is refused
+-- so a payload without bytes after others is the one that is refused
 none_read : (number : ℕ) (payloads : List (List ℕ)) (recs : List Rec) → AreOf payloads recs
     → AllFit recs → (index : ℕ) × (records_from number (payloads ++ [] ∷ []) ≡ Err index)
 none_read number [] recs are fit =

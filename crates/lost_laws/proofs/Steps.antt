@@ -301,7 +301,7 @@ happens s e what.Resend c h = record {
 }
 happens s e what.Moment c h = calm s e h
 
--- want of memory
+-- out of memory
 
 abbrev WantsApart : Option Wanting → Type 0
 WantsApart w = IfSome w (λ w. LetterApart w.letter)

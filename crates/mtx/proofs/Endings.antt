@@ -267,7 +267,7 @@ many_is_overrun input bytes lines desk held held' is p =
       );
     }
 
--- the commits of the state behind all lines
+-- the commits of the state after all lines
 entries_are : (asked : List Asked) (entries : List Entry)
     → entries ≡ (served_all first_state asked).server.entries
     → entries ≡ (behind (length asked) asked).server.entries

@@ -1,4 +1,4 @@
--- Playing lines one after the other: what holds behind each.
+-- Playing lines one after the other: what holds after each.
 use Rattle.std.proofs.Common.{◌≡◌, ℕ, suc, ◌<◌, ◌+◌, ◌-◌, List, [], ◌∷◌, ◌++◌, length, take, Option}
 use Rattle.std.proofs.Common.{Some, refl, sym, ap, subst, ◌∙◌, append_assoc, arith, length-append}
 use Rattle.std.proofs.Common.{get_or, inl, inr}
@@ -145,7 +145,7 @@ progress_stops input rest after line lines desk held held1 held2 p next bad same
           (sym same) p.text;
     }
 
--- all of the bytes, and a front of those behind them
+-- all of the bytes, and a front of those after them
 went_whole : (held held' : Option (List ℕ)) (bytes : List ℕ) → Went held held' bytes
     → WentInPart held held' bytes
 went_whole held held' bytes w = (

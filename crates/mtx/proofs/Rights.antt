@@ -1,4 +1,4 @@
--- The answers are right behind any lines.
+-- The answers are right after any lines.
 use Rattle.std.proofs.Common.{List, take}
 use Rattle.play_script.specs.Lines.{Asked}
 use Rattle.single_node.proofs.Rights.{good_is_right}

@@ -31,7 +31,7 @@ IsInterrupted status.BadConf = ⊥
 IsInterrupted (status.DiskFault disk) = ⊥
 IsInterrupted (status.BadJournal disk index) = ⊥
 
--- what was written behind what the sink held before
+-- what was written after what the sink held before
 abbrev pub Wrote : List ℕ → List ℕ → List ℕ → Status → Type 0
 Wrote input before after status.Ok = Played input before after
 Wrote input before after (status.BadLine line) = AnsweredFirst (line - 1) input before after

@@ -15,7 +15,7 @@ AllAsk [] (a ∷ asked) = ⊥
 AllAsk (line ∷ lines) [] = ⊥
 AllAsk (line ∷ lines) (a ∷ asked) = Asks line a × AllAsk lines asked
 
--- the state behind the first lines, so many of them
+-- the state after the first lines, so many of them
 abbrev pub behind : ℕ → List Asked → DeskState
 behind n asked = served_all first_state (take n asked)
 

@@ -6,7 +6,7 @@ use Rattle.std.specs.Str.{bytes_eq}
 abbrev pub play : List ℕ
 play = codes "play"
 
--- the words behind `play`: there are none
+-- the words after `play`: there are none
 abbrev pub behind_play : List (List ℕ) → Option ℕ
 behind_play [] = None
 behind_play (word ∷ words) = Some 1

@@ -6,7 +6,7 @@ ghost use Rattle.mtx.specs.Ending.{Judges, IsInterrupted};
 ghost use Rattle.mtx.specs.declared.status.Status.{Status};
 ghost use Rattle.mtx.specs.declared.status.Status.TheVariants.{Ok, Memory, ReadFault, WriteFault};
 
-/// Whatever is asked, the answers are those of one list of commits, behind each line.
+/// Whatever is asked, the answers are those of one list of commits, after each line.
 pub fn answers_are_right()
     ensures { (asked : List Asked) → RightThroughout asked }
 {}

@@ -65,7 +65,7 @@ fn words_of<E: Env>(alloc: Global, env: &E) -> Result<Vec<String>, AllocError> {
     Ok(words)
 }
 
-/// Puts empty disks behind others, until there are so many.
+/// Puts empty disks after others, until there are so many.
 fn put_disks(
     alloc: Global,
     disks: &mut Vec<MemDisk>,

@@ -69,7 +69,7 @@ pub fn offline<S: Source, K: Sink, D: Disk>(
     out: &mut K,
     disks: &mut Vec<D>,
 ) -> Status
-    // Place `n` is shard `n`'s, place `16 + n` router `n`'s; all are at their places again behind
+    // Place `n` is shard `n`'s, place `16 + n` router `n`'s; all are at their places again after
     // the call.
     requires disks { vec_len disks.old ≡ 24 }
     // The words are refused exactly where they are no command.

@@ -66,7 +66,7 @@ fn play_line<K: Sink>(
     }
 }
 
-/// The desk behind all lines, and how many there were.
+/// The desk after all lines, and how many there were.
 #[derive(Drop)]
 struct Behind {
     desk: Desk,
@@ -111,7 +111,7 @@ fn write_dump<K: Sink>(alloc: Global, entries: &[Entry], out: &mut K) -> Result<
 }
 
 /// Plays the lines that were read of a schedule. Where more follows that can't be served, it is at
-/// fault behind them.
+/// fault after them.
 pub fn play_plain<K: Sink>(alloc: Global, bytes: &[u8], end: End, out: &mut K) -> Status
     requires few { length (lines_of bytes.now) ≤ most_lines }
     ensures judged { (left : Option (List ℕ))

@@ -104,7 +104,7 @@ fn words_and_lines_that_are_refused(rt: HostRuntime) -> Result<(), Fail> {
 fn a_source_and_a_sink_that_fail(rt: HostRuntime) -> Result<(), Fail> {
     let alloc = rt.alloc();
     let words = words_of(alloc, "play")?;
-    // the second read fails, behind the bytes and before the end
+    // the second read fails, after the bytes and before the end
     let ran = play(alloc, &words, INSERT, vec![in alloc; 1]?, Vec::new(alloc))?;
     assert_eq!(rt; ran.status, Status::ReadFault);
     assert!(rt; ran.text.is_empty() && ran.read_faults == 1 && ran.write_faults == 0);

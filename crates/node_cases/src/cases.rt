@@ -28,10 +28,10 @@ use std::alloc::{AllocError, Global};
 ///   a stop, and gives it
 ///   the events kept with `>`: found are where the disk stopped, how many records were journalled
 ///   by then, how many
-///   were found, and the answers behind it; each once, where it is the same as after one call less.
+///   were found, and the answers after it; each once, where it is the same as after one call less.
 ///
 /// Events and records are in the words of messages.rt and records.rt. A time is `SECONDS.COUNT`;
-/// behind a letter it is a read timestamp, r, or one of a commit or a prepare, a. Other letters are
+/// after a letter it is a read timestamp, r, or one of a commit or a prepare, a. Other letters are
 /// of a transaction t, a session a or o, its number n, the place of a statement k, a boot b, a
 /// shard s, a coordinator or a cause's number c, a reason w.
 #[derive(Drop)]

@@ -25,7 +25,7 @@ impl Found {
         Ok(())
     }
 
-    /// Adds equal lines behind.
+    /// Adds equal lines after.
     pub fn append(&mut self, alloc: Global, lines: &[String]) -> Result<(), AllocError> {
         for line in lines {
             self.say(alloc, line.as_str())?;
@@ -47,7 +47,7 @@ impl Found {
         self.len() == other.len() && front_length(self.as_slice(), other.as_slice()) == self.len()
     }
 
-    /// The next line; none behind the last.
+    /// The next line; none after the last.
     pub fn next(&mut self) -> Option<&str> {
         let place = self.next;
         self.next = place.saturating_add(1);

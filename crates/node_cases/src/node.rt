@@ -25,7 +25,7 @@ pub fn list_node(alloc: Global, shard: u16) -> Result<ListNode, NodeErr> {
     }
 }
 
-/// Each record behind a sign.
+/// Each record after a sign.
 pub fn put_records(
     alloc: Global,
     sign: &str,

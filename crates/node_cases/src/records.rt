@@ -84,7 +84,7 @@ fn coord_end(words: &Words) -> Result<Rec, Unread> {
     Ok(Rec::CoordEnd { tag: words.tag(1)? })
 }
 
-/// The record of a text, whose writes stand behind its first semicolon.
+/// The record of a text, whose writes stand after its first semicolon.
 pub fn record_of(alloc: Global, text: &str) -> Result<Rec, Unread> {
     let (front, writes) = text.split_once(";").unwrap_or((text, ""));
     let words: Vec<&str> = front.split_whitespace().collect(alloc)?;

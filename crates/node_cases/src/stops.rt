@@ -103,7 +103,7 @@ fn begins(lines: &[String], others: &[String]) -> bool {
     front_length(lines, others) == lines.len()
 }
 
-/// Where the disk stopped, how many records were journalled by then, and how many were found behind
+/// Where the disk stopped, how many records were journalled by then, and how many were found after
 /// it.
 fn stop_text(
     alloc: Global,
@@ -147,7 +147,7 @@ fn stop(
 }
 
 /// Gives the events to a node on a new disk, and on disks that stop after 0, 1, 2 .. calls, each of
-/// which is started again and given the events behind.
+/// which is started again and given the events after.
 pub fn stops(
     alloc: Global,
     shard: u16,

@@ -3,7 +3,7 @@ use bson_core::{Doc, Value};
 use std::alloc::{AllocError, Global};
 use txn_types::{Decision, Id, Lsid, Tag, Ts};
 
-/// `LETTERSECONDS.COUNT`, behind a space.
+/// `LETTERSECONDS.COUNT`, after a space.
 pub fn put_time(out: &mut String, letter: &str, at: Ts) -> Result<(), AllocError> {
     let (seconds, count) = (at.0 >> 32, at.0 & 0xffff_ffff);
     write!(out, " {letter}{seconds}.{count}")

@@ -30,7 +30,7 @@ impl<T: Drop> From<AllocFailed<T>> for Unread {
     }
 }
 
-/// The words of a line; an empty one behind the last.
+/// The words of a line; an empty one after the last.
 #[derive(Clone, Copy)]
 pub struct Words<'a> {
     pub words: &'a [&'a str],
@@ -86,7 +86,7 @@ pub fn sides<'a>(word: &'a str, sign: &str) -> Result<(&'a str, &'a str), Unread
     }
 }
 
-/// What stands behind a letter.
+/// What stands after a letter.
 fn behind<'a>(word: &'a str, letter: &str) -> Result<&'a str, Unread> {
     match word.strip_prefix(letter) {
         Some(rest) => Ok(rest),
@@ -109,7 +109,7 @@ pub fn node_of(word: &str) -> Result<NodeId, Unread> {
     }
 }
 
-/// The client's session whose 16 bytes end with this one, behind zeros.
+/// The client's session whose 16 bytes end with this one, after zeros.
 fn client_of(last: u8) -> Lsid {
     let mut bytes = [0; 16];
     bytes[15] = last;
@@ -135,7 +135,7 @@ impl<'a> Words<'a> {
         }
     }
 
-    /// What stands behind the letter of a word.
+    /// What stands after the letter of a word.
     fn letter(&self, index: usize, letter: &str) -> Result<&'a str, Unread> {
         behind(self.word(index), letter)
     }
@@ -164,22 +164,22 @@ impl<'a> Words<'a> {
         })
     }
 
-    /// A number behind a letter.
+    /// A number after a letter.
     pub fn small(&self, index: usize, letter: &str) -> Result<u32, Unread> {
         small_of(self.letter(index, letter)?)
     }
 
-    /// The number of a shard behind a letter.
+    /// The number of a shard after a letter.
     pub fn shard(&self, index: usize, letter: &str) -> Result<u16, Unread> {
         short_of(self.letter(index, letter)?)
     }
 
-    /// A byte behind a letter.
+    /// A byte after a letter.
     pub fn byte(&self, index: usize, letter: &str) -> Result<u8, Unread> {
         byte_of(self.letter(index, letter)?)
     }
 
-    /// A time behind a letter.
+    /// A time after a letter.
     pub fn time(&self, index: usize, letter: &str) -> Result<Ts, Unread> {
         time_of(self.letter(index, letter)?)
     }

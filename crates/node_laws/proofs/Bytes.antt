@@ -92,7 +92,7 @@ body_fits kind bytes fits small = (
   omega (arith, length_body kind bytes, length_frame kind bytes, small),
 )
 
--- What stands behind the header and the section's kind is the body.
+-- What stands after the header and the section's kind is the body.
 
 behind_header : (kind : ℕ) (bytes : List ℕ)
     → drop 20 (message (frame_of kind bytes)) ≡ 0 ∷ (spelling (body_of kind bytes) ++ [])

@@ -1,4 +1,4 @@
--- What is written of filters is read again, whatever stands behind it.
+-- What is written of filters is read again, whatever stands after it.
 use Rattle.std.proofs.Common.{◌≡◌, ℕ, zero, suc, ◌+◌, ◌≤◌, Bool, true, false, List, [], ◌∷◌, ◌++◌}
 use Rattle.std.proofs.Common.{length, Some, Ok, refl, sym, ap, subst, ◌∙◌, append_assoc, arith}
 use Rattle.std.specs.List.{All, flat_map}
@@ -86,7 +86,7 @@ joined_again read join end filters h rest = rw (h rest) refl
 
 -- A filter.
 
--- behind its kind
+-- after its kind
 by_again : (levels end kind : ℕ) (bytes : List ℕ) (f : Filter) → one_to 7 kind ≡ Some kind
     → IsReadAs (filter_by (filter_at levels end) kind end) bytes f
     → IsReadAs (filter_at (suc levels) end) (kind ∷ bytes) f

@@ -1,4 +1,4 @@
--- What is written of ids is read again, whatever stands behind it.
+-- What is written of ids is read again, whatever stands after it.
 use Rattle.std.proofs.Common.{◌≡◌, ℕ, ◌≤◌, List, [], ◌∷◌, ◌++◌, length, Some, Ok, refl, ap, ◌∙◌}
 use Rattle.std.proofs.Common.{arith}
 use Rattle.std.specs.List.{All}

@@ -1,4 +1,4 @@
--- What is written of a number is read again, whatever stands behind it.
+-- What is written of a number is read again, whatever stands after it.
 use Rattle.std.proofs.Common.{◌≡◌, ℕ, ◌^◌, ◌<◌, false, ltb, List, ◌++◌, length, Some, refl, ap, ◌∙◌}
 use Rattle.std.proofs.Common.{arith}
 use Rattle.std.specs.Int.{Width, w16, w32, w64, to_le_bytes, from_le_bytes}

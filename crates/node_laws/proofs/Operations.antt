@@ -1,4 +1,4 @@
--- What is written of operations is read again, whatever stands behind it.
+-- What is written of operations is read again, whatever stands after it.
 use Rattle.std.proofs.Common.{◌≡◌, ℕ, ◌^◌, ◌+◌, ◌≤◌, ◌<◌, Bool, true, List, [], ◌∷◌, ◌++◌, length}
 use Rattle.std.proofs.Common.{Option, Some, None, Ok, refl, sym, ap, ◌∙◌, append_assoc}
 use Rattle.std.proofs.Common.{length-append, arith}
@@ -145,7 +145,7 @@ find_again ns end filter down limit h k rest =
       long_again end limit k rest,
     ) refl
 
--- behind its kind and its namespace
+-- after its kind and its namespace
 by_again : (end kind : ℕ) (ns bytes : List ℕ) (o : Op) → one_to 4 kind ≡ Some kind
     → is_namespace ns ≡ true → length ns < 2 ^ 32 → IsReadAs (op_by kind ns end) bytes o
     → IsReadAs (op_at end) (kind ∷ text_bytes ns ++ bytes) o

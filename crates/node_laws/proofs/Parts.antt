@@ -1,5 +1,5 @@
 -- What is written of numbers, counts, texts, documents, values and ids is read again, whatever
--- stands behind it.
+-- stands after it.
 use Rattle.std.proofs.Common.{◌≡◌, ℕ, ℤ, suc, ◌-◌, ◌+◌, ◌^◌, ◌≤◌, ◌<◌, Bool, true, false, ltb, eqb}
 use Rattle.std.proofs.Common.{not, position, List, [], ◌∷◌, ◌++◌, length, take, Option, Some, None}
 use Rattle.std.proofs.Common.{Ok, refl, sym, ap, ◌∙◌, append_assoc, arith, FitsSigned}

@@ -1,4 +1,4 @@
--- What is written of causes, answers, votes and ends is read again, whatever stands behind it.
+-- What is written of causes, answers, votes and ends is read again, whatever stands after it.
 use Rattle.std.proofs.Common.{◌≡◌, ℕ, ℤ, ◌^◌, ◌<◌, ◌≤◌, Bool, true, false, List, [], ◌∷◌, ◌++◌}
 use Rattle.std.proofs.Common.{length, Option, Some, None, Result, Ok, Err, refl, ap, ◌∙◌}
 use Rattle.std.proofs.Common.{append_assoc, arith, FitsSigned}

@@ -1,5 +1,5 @@
 -- What is written of transactions, nodes, decisions and participants is read again, whatever stands
--- behind it.
+-- after it.
 use Rattle.std.proofs.Common.{◌≡◌, ℕ, ℤ, ◌^◌, ◌<◌, true, ltb, List, [], ◌∷◌, ◌++◌, length, Some}
 use Rattle.std.proofs.Common.{None, Ok, refl, ap, ◌∙◌, append_assoc, position, not, eqb, arith}
 use Rattle.std.proofs.Common.{FitsSigned}

@@ -1,4 +1,4 @@
--- The steps of one call, put together; and a look at the whole history behind a join.
+-- The steps of one call, put together; and a look at the whole history after a join.
 use Rattle.std.proofs.Common.{◌≡◌, ℕ, ◌+◌, List, [], ◌∷◌, ◌++◌, length, sym, ap, ◌∙◌, subst}
 use mathlib.Core.List.{IsPrefix}
 use Rattle.atomic_table.specs.Table.{Me, rest}
@@ -25,7 +25,7 @@ module _ {M E A : Type 0} (takes : M → E → A → M → Type 0) where
     h.3,
   )
 
-  -- the slot behind the machine's step has a note of it
+  -- the slot after the machine's step has a note of it
   abbrev pub has_note : (m m' : S) (e : E) (a : A) → Ran takes e a m m' → HasNote takes m'
   has_note m m' e a h = (
     h.0,
@@ -45,7 +45,7 @@ module _ {M E A : Type 0} (takes : M → E → A → M → Type 0) where
       → Records takes m' found m'' → Recorded takes found e a h.0 h.2 m'.0 m''.0
   told m m' m'' found e a h r = let n = has_note m m' e a h in r.1 h.0 h.1 h.2 e a h.3 n.7 n.6 h.6
 
-  -- behind the record the machine lies in the slot
+  -- after the record the machine lies in the slot
   pub has_recorded : (m m' m'' : S) (found : ℕ) (e : E) (a : A) → Ran takes e a m m'
       → Records takes m' found m'' → HasMachine m''
   has_recorded m m' m'' found e a h r =

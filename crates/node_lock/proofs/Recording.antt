@@ -59,7 +59,7 @@ module _ {M E A : Type 0} (takes : M → E → A → M → Type 0) (opening : M)
   recorded v t y log e a = record v
       { stage = Holding t y; seen = log ++ (e, a) ∷ []; mine = v.mine ++ (length log, (e, a)) ∷ [] }
 
-  -- the rule behind the step
+  -- the rule after the step
   goes_on : (id : ℕ) (v : View M E A) (t : ℕ) (x y : M) (e : E) (a : A) → v.stage ≡ Holding t x
       → takes x e a y
       → (s : State (Kept M E A) (View M E A)) (r : Law s) → get_elem? s.views id ≡ some v

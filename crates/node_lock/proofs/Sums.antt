@@ -1,4 +1,4 @@
--- What holds of each view, and sums over all views, behind a change of one.
+-- What holds of each view, and sums over all views, after a change of one.
 use Rattle.std.proofs.Common.{◌≡◌, ◌≢◌, ℕ, zero, suc, ◌+◌, ◌≤◌, List, [], ◌∷◌, ◌++◌, set, refl, sym}
 use Rattle.std.proofs.Common.{ap, subst, ⊎_elim, arith}
 use mathlib.Core.Option.{some, some-injective, some-ne-none}

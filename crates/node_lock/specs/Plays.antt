@@ -36,7 +36,7 @@ module _ {M E A : Type 0} where
   HasMachine m = (t : ℕ) × (x : M) × (k : Kept M E A) × (m.1 ≡ (0, k) ∷ rest m.1)
       × (m.0.stage ≡ Holding t x) × (k.machine ≡ Some x)
 
-  -- the slot has the machine behind a call, and a note of the call
+  -- the slot has the machine after a call, and a note of the call
   abbrev pub HasNote : (M → E → A → M → Type 0) → Me (Kept M E A) (View M E A) → Type 0
   HasNote takes m = (t : ℕ) × (x : M) × (y : M) × (e : E) × (a : A) × (k : Kept M E A)
       × (m.1 ≡ (0, k) ∷ rest m.1) × (m.0.stage ≡ Holding t x) × Notes k y e a × takes x e a y

@@ -30,7 +30,7 @@ queued (Waiting t) = 1
 queued (Holding t m) = 1
 
 -- How far the lock has come: the next ticket and the one that is served, not wrapped; the history,
--- and the machine behind it; which seat holds the machine, if one does; and which seat drew a
+-- and the machine after it; which seat holds the machine, if one does; and which seat drew a
 -- ticket
 pub record Course (M E A : Type 0) : Type 0 where
   pub next : ℕ

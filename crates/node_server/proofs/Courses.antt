@@ -1,4 +1,4 @@
--- One message of a connection, and one message behind another.
+-- One message of a connection, and one message after another.
 use Rattle.std.proofs.Common.{◌≡◌, ◌≢◌, ℕ, ◌≤◌, List, [], ◌∷◌, ◌++◌, length, take, Option, Some}
 use Rattle.std.proofs.Common.{None, Result, Ok, Err, IfSome, refl, sym, ap, subst, ◌∙◌}
 use Rattle.std.proofs.Common.{append_assoc, inl, inr, ⊎_elim, length-append, arith}
@@ -268,7 +268,7 @@ module _ {T M E A : Type 0} (makes : T → List ℕ → Result E TalkErr → T �
             (written p.acts)) kept p.is);
       }
 
-  -- ---- one message behind another
+  -- ---- one message after another
   cuts_more : (limit : ℕ) (bytes : List ℕ) (fs : List (List ℕ)) (rest more : List ℕ)
       → Cuts limit bytes fs rest → Cuts limit (bytes ++ more) fs (rest ++ more)
   cuts_more limit bytes [] rest more h = ap (λ l. l ++ more) h

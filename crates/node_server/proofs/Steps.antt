@@ -1,4 +1,4 @@
--- What a connection did, one thing behind another.
+-- What a connection did, one thing after another.
 use Rattle.std.proofs.Common.{◌≡◌, ℕ, ◌≤◌, List, [], ◌∷◌, ◌++◌, Result, Ok, Err, refl, sym, ap}
 use Rattle.std.proofs.Common.{subst, ◌∙◌, append_assoc}
 use Rattle.std.proofs.lemmas.List.{append-nil}
@@ -129,7 +129,7 @@ module _ {T M E A : Type 0} (makes : T → List ℕ → Result E TalkErr → T �
     is = (refl, refl);
   }
 
-  -- further calls, behind calls that gave nothing to write
+  -- further calls, after calls that gave nothing to write
   pub answering_more : (frame : List ℕ) (event : E) (from : Due E) (t0 t1 t2 : T)
       (v0 v1 v2 : View M E A) (l0 l1 l2 : L) (end end' : Due E → List ℕ → Type 0)
       → Answered makes carries takes t0 t1 v0 v1 l0 l1 from []

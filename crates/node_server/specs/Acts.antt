@@ -22,7 +22,7 @@ pub data Due (E : Type 0) : Type 0 where
   closing : List ℕ → Due E
   failing : TalkErr → Due E
 
--- steps lead from one state to another, one behind the other
+-- steps lead from one state to another, one after the other
 abbrev pub Through : {S X : Type 0} → (S → X → S → Type 0) → S → List X → S → Type 0
 Through steps old [] new = new ≡ old
 Through {S} steps old (x ∷ xs) new = (mid : S) × steps old x mid × Through steps mid xs new
@@ -49,7 +49,7 @@ module _ {E : Type 0} where
 
 module _ {E A : Type 0} where
   -- each thing as it was due: a message once, and then the calls of its event, of the same again
-  -- behind Hold, and of those that Call names
+  -- after Hold, and of those that Call names
   abbrev pub InTurn : Due E → Act E A → Due E → Type 0
   InTurn message (asked frame made) end = end ≡ due_asked frame made
   InTurn (calling frame event) (told place e answer next) end = (e ≡ event)

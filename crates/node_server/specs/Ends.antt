@@ -47,7 +47,7 @@ abbrev pub ended_of : TalkErr → Ended
 ended_of talk.Failed = TalkFault
 ended_of talk.Memory = Memory
 
--- what the connection turns to behind a call, where `again` is the event once more
+-- what the connection turns to after a call, where `again` is the event once more
 abbrev pub heeded : {E : Type 0} → E → Result (NextOf E) TalkErr → Result (Turn E) Ended
 heeded again (Ok (Call event)) = Ok (turn.Call event)
 heeded again (Ok Hold) = Ok (turn.Call again)
@@ -119,7 +119,7 @@ pub record Answered {T M E A : Type 0} (makes : T → List ℕ → Result E Talk
   pub frames_are : frames acts ≡ given
   pub is : end due (written acts)
 
--- Messages came off the link behind the bytes that were held, and each was answered
+-- Messages came off the link after the bytes that were held, and each was answered
 pub record Served {T M E A : Type 0} (makes : T → List ℕ → Result E TalkErr → T → Type 0)
     (carries : T → A → Result (NextOf E) TalkErr → T → Type 0) (takes : M → E → A → M → Type 0)
     (talk talk' : T) (pass pass' : View M E A) (log log' : List (ℕ × E × A))

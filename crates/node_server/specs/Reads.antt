@@ -8,7 +8,7 @@ use Rattle.node_server.specs.declared.ended.Ended.{Ended}
 use Rattle.node_server.specs.declared.ended.Ended.TheVariants.{Done, LinkFault, BadFrame, Cut}
 use Rattle.node_server.specs.declared.ended.Ended.TheVariants.{TalkFault, Memory, Closed}
 
--- the bytes are these messages, one behind the other, and what is behind them
+-- the bytes are these messages, one after the other, and what is after them
 abbrev pub Cuts : ℕ → List ℕ → List (List ℕ) → List ℕ → Type 0
 Cuts limit bytes [] rest = bytes ≡ rest
 Cuts limit bytes (frame ∷ frames) rest = (more : List ℕ)
@@ -29,7 +29,7 @@ EndsAt held Done = held ≡ []
 EndsAt held Cut = held ≢ []
 EndsAt held e = ⊥
 
--- no message comes: these bytes are held still, and are those behind the last message
+-- no message comes: these bytes are held still, and are those after the last message
 abbrev pub Stops : ℕ → List ℕ → Option (List ℕ) → ℕ → ℕ → ℕ → ℕ → Ended → Type 0
 Stops limit rest left faults faults' ends ends' Done = (rest ≡ [])
     × IfSome left (λ bytes. bytes ≡ []) × Rose ends ends'

@@ -14,7 +14,7 @@ use node_lock::{NodeLock, Pass};
 use std::alloc::{AllocError, Global};
 use std::sync::Wait;
 
-/// What a connection turns to behind a call.
+/// What a connection turns to after a call.
 #[derive(Drop)]
 pub enum Turn<E> {
     /// To a call of this event.
@@ -81,7 +81,7 @@ fn heed<E: Drop>(next: Result<NextOf<E>, TalkErr>, again: E) -> Result<Turn<E>, 
 }
 
 // A call, and then a ring of the room; or, where the machine held the event, a wait in it for a
-// call of another. The count is read before the call, so that no ring behind it is missed.
+// call of another. The count is read before the call, so that no ring after it is missed.
 fn take_turn<R: Wait, M: Machine, T: Talk<M>>(
     rt: &R,
     alloc: Global,

@@ -65,7 +65,7 @@ impl Incoming {
         }
     }
 
-    // Holds what the link gives, behind what is held, which has no message.
+    // Holds what the link gives, after what is held, which has no message.
     fn read_more<L: Link>(&mut self, link: &mut L) -> Result<(), Ended>
         requires none { next_of self.old.feeder.limit self.old.feeder.held ≡ Ok None }
         requires limit { self.old.feeder.limit < 2 ^ 32 }

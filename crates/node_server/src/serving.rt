@@ -147,7 +147,7 @@ where
 
 /// Serves one connection until it ends: it reads a message, makes calls, and writes before it reads
 /// the next. Where the Talk says `Hold` it waits in the room, with the lock left, until another
-/// connection has made a call; it rings the room behind each other call of its own. It may wait for
+/// connection has made a call; it rings the room after each other call of its own. It may wait for
 /// other threads, so what it ensures holds if it returns.
 ///
 /// What it did is told as a list of acts: the messages that it read, each given to the Talk once,

@@ -16,7 +16,7 @@ pub enum TalkErr {
     Memory,
 }
 
-/// What a connection does behind a call.
+/// What a connection does after a call.
 #[derive(Drop)]
 pub enum NextOf<E> {
     /// Gives the machine this event.
@@ -29,15 +29,15 @@ pub enum NextOf<E> {
     Close(Bytes),
 }
 
-/// What a connection does behind a call of this machine.
+/// What a connection does after a call of this machine.
 pub type Next<M> = NextOf<<M as Machine>::Event>;
 
 /// What a kind of connection makes of messages and of a machine's answers.
 pub trait Talk<M: Machine> {
-    /// The state before, the message, what is made of it, and the state behind it.
+    /// The state before, the message, what is made of it, and the state after it.
     ghost makes: { Self → List ℕ → Result M.Event Refusal → Self → Type 0 };
 
-    /// The state before, the machine's answer, what is to be done, and the state behind it.
+    /// The state before, the machine's answer, what is to be done, and the state after it.
     ghost carries: { Self → M.Answer → Result (Following M.Event) Refusal → Self → Type 0 };
 
     /// How often a call has failed.

@@ -56,7 +56,7 @@ module _ (s : ShardState) (e : NodeEvent) (made : CoreStep) (step : Steps s e ma
   still_made faults is =
       subst (λ (o : CoreStep). IsStill s o) step.1 (still_step step.0 s e faults is)
 
-  -- a core that runs behind it ran before it
+  -- a core that runs after it ran before it
   pub ran : made.core.stopped ≡ None → closed ≡ false
   ran none = some_or_none s.stopped (closed ≡ false) running (λ faults is. let same : made.core
       ≡ s = (still_made faults is).core in let was : s.stopped ≡ None =

@@ -8,7 +8,7 @@ use Rattle.record_store.specs.Found.{FoundIn, HasBadBytes, HasBadRecord}
 use Rattle.record_store.specs.declared.error.NodeErr.{NodeErr}
 use Rattle.record_store.specs.declared.error.NodeErr.TheVariants.{DiskFault, BadJournal, Memory}
 
--- no boot is left behind these records
+-- no boot is left after these records
 abbrev pub HasNoBoot : List Rec → ℕ → Type 0
 HasNoBoot recs index = (first_refused recs ≡ None) × (4294967294 ≤ (image_of recs).boot)
     × (index ≡ length recs)
@@ -24,7 +24,7 @@ RefusesRecords recs (BadJournal index) = HasBadOrder recs index
 RefusesRecords recs Memory = Unit {0}
 
 -- a start of a log: each record can follow those before it, and the record of the next boot stands
--- behind them
+-- after them
 pub record Boots (old new : List Rec) (image : Image) : Type 0 where
   pub follow : first_refused old ≡ None
   pub left : (image_of old).boot < 4294967294

@@ -14,7 +14,7 @@ use record_store::{NodeErr, Payload, RecordLog};
 use shard_image::{Image, ImageErr, apply, image_of};
 use std::alloc::Global;
 
-/// The last boot but one: behind it no other can follow.
+/// The last boot but one: after it no other can follow.
 const LAST_BOOT: u32 = 4_294_967_294;
 
 /// The state that the records of a log leave, and then the record of the next boot, which is
@@ -35,7 +35,7 @@ pub fn boot<L: RecordLog>(alloc: Global, log: &mut L) -> Result<Image, NodeErr>
     }
 }
 
-/// Appends the record of the boot behind those that left this state.
+/// Appends the record of the boot after those that left this state.
 fn boot_behind<L: RecordLog>(alloc: Global, log: &mut L, image: Image) -> Result<Image, NodeErr>
     requires image { image ≡ image_of (L.kept log.old) }
     requires follow { first_refused (L.kept log.old) ≡ None }

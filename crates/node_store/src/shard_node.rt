@@ -101,7 +101,7 @@ impl<L: RecordLog> ShardNode<L> {
         }
     }
 
-    /// What is resolved at the shard, below which no commit comes any more; behind a step whose
+    /// What is resolved at the shard, below which no commit comes any more; after a step whose
     /// append failed, what was resolved before it.
     pub fn resolved(&self) -> Ts
         ensures { result ≡ resolved_at self.now.node }

@@ -1,4 +1,4 @@
--- Bytes that are written one behind the other.
+-- Bytes that are written one after the other.
 use Rattle.std.proofs.Common.{◌≡◌, ℕ, ◌+◌, ◌≤◌, ◌<◌, Bool, true, false, ltb, List, [], ◌∷◌, ◌++◌}
 use Rattle.std.proofs.Common.{length, drop, get_or, Option, Some, None, Result, Ok, Err, refl, sym}
 use Rattle.std.proofs.Common.{ap, ◌∙◌, append_assoc, append-nil, length-append, arith}
@@ -34,7 +34,7 @@ joined_twice None (x ∷ a) (y ∷ b) = refl
 joined_twice (Some bytes) (x ∷ a) (y ∷ b) = within_by (bytes ++ x ∷ a) y b (ltb most_content
     (length (bytes ++ x ∷ a))) refl ∙ ap within (append_assoc bytes (x ∷ a) (y ∷ b))
 
--- What is too much by itself is too much behind others.
+-- What is too much by itself is too much after others.
 
 too_much : (bytes : List ℕ) (b : Bool) → ltb most_content (length bytes) ≡ b → within bytes ≡ None
     → most_content < length bytes

@@ -15,7 +15,7 @@ abbrev pub from_document : ℕ → BsonErr → WireErr
 from_document at document.Memory = Memory
 from_document at fault = Field at
 
--- want of memory, which no definition answers
+-- out of memory, which no definition answers
 abbrev pub is_memory : WireErr → Bool
 is_memory Memory = true
 is_memory other = false

@@ -11,7 +11,7 @@ most_content = 399999944
 unfoldable pub within : List ℕ → Option (List ℕ)
 within bytes = if nat_lt most_content (length bytes) then None else Some bytes
 
--- with these behind what was written: nothing stands any more once it was too much
+-- with these after what was written: nothing stands any more once it was too much
 unfoldable pub joined : Option (List ℕ) → List ℕ → Option (List ℕ)
 joined written [] = written
 joined None (byte ∷ more) = None

@@ -1,6 +1,6 @@
 -- Reading the bytes of node messages front to back, as functions on lists: a field and the bytes
--- behind it, or the place of the first byte of the field that can't be read. `end` is the place
--- behind the bytes, so those that are left begin at the place `end - length bytes`.
+-- after it, or the place of the first byte of the field that can't be read. `end` is the place
+-- after the bytes, so those that are left begin at the place `end - length bytes`.
 use Rattle.std.specs.Prelude.{ℕ, ℤ, pos, zero, suc, ◌+◌, ◌-◌, ◌==◌, ◌&&◌, ◌||◌, Bool, true, false}
 use Rattle.std.specs.Prelude.{not, List, [], ◌∷◌, ◌++◌, length, take, drop, position, nat_lt}
 use Rattle.std.specs.Prelude.{nat_le, is_some, Option, Some, None, option_and_then, Result, Ok, Err}
@@ -63,7 +63,7 @@ use Rattle.node_wire.specs.Errors.{from_document}
 use Rattle.node_wire.specs.declared.error.WireErr.{WireErr}
 use Rattle.node_wire.specs.declared.error.WireErr.TheVariants.{Field, NotInternal}
 
--- a field and the bytes behind it, or the first fault
+-- a field and the bytes after it, or the first fault
 abbrev pub Found : Type 0 → Type 0
 Found A = Result (A × List ℕ) WireErr
 
@@ -120,7 +120,7 @@ code_at meaning end bytes = do
   x ← or_field (place end bytes) (meaning byte.0)
   Ok (x, byte.1)
 
--- so many things behind those in front, each read alike
+-- so many things after those in front, each read alike
 abbrev pub each_at : {A : Type 0} → (List ℕ → Found A) → ℕ → List A → List ℕ → Found (List A)
 each_at read zero front bytes = Ok (front, bytes)
 each_at read (suc n) front bytes = read bytes >>= λ x. each_at read n (front ++ x.0 ∷ []) x.1
@@ -650,7 +650,7 @@ envelope_of kind end bytes = do
   m ← msg_by kind end time.1
   whole end (record { from = from.0; to = to.0; time = time.0; msg = m.0 }) m.1
 
--- the length of an envelope in a batch, behind which its kind and as many bytes follow
+-- the length of an envelope in a batch, after which its kind and as many bytes follow
 unfoldable pub length_at : ℕ → List ℕ → Found ℕ
 length_at end bytes = number_of w32 end bytes >>= λ n. if nat_lt n.0 (length n.1) then Ok n
     else Err (Field (place end bytes))

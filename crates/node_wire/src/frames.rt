@@ -161,7 +161,7 @@ fn made(alloc: Global, kind: u8, out: Output) -> Result<Frame, WireErr>
 }
 
 /// The frame of an envelope. It is refused exactly where its message would have more than
-/// 400,000,000 bytes, or for want of memory.
+/// 400,000,000 bytes, or out of memory.
 pub fn to_frame(alloc: Global, envelope: &Envelope) -> Result<Frame, WireErr>
     ensures { Makes (envelope_frame envelope.now) result }
 {
@@ -171,7 +171,7 @@ pub fn to_frame(alloc: Global, envelope: &Envelope) -> Result<Frame, WireErr>
 }
 
 /// The frame of a batch. It is refused exactly where its message would have more than 400,000,000
-/// bytes, or for want of memory.
+/// bytes, or out of memory.
 pub fn batch_to_frame(alloc: Global, envelopes: &[Envelope]) -> Result<Frame, WireErr>
     ensures { Makes (batch_frame envelopes.now) result }
 {

@@ -218,7 +218,7 @@ fn read_msg(alloc: Global, kind: u8, end: u64, bytes: &[u8]) -> Result<(Msg, &[u
     }
 }
 
-/// The envelope, where nothing is left behind it.
+/// The envelope, where nothing is left after it.
 fn complete(end: u64, envelope: Envelope, rest: &[u8]) -> Result<Envelope, WireErr>
     ensures { Gives (λ e. e) result (whole end envelope rest.now) }
 {

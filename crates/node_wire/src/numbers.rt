@@ -1,5 +1,5 @@
 //! Numbers, bytes and counts at the front of what is left of a message's bytes. Each reader gives
-//! what it found and the bytes behind it. `end` is the place behind all of the bytes.
+//! what it found and the bytes after it. `end` is the place after all of the bytes.
 ghost use Rattle.std.specs.Prelude.{◌≡◌, ◌==◌, not, position, ◌<◌, ◌≤◌, length, IfOk, IfSome};
 ghost use Rattle.std.specs.Int.{w16, w32, w64};
 ghost use Rattle.node_wire.specs.Errors.{Gives};
@@ -95,7 +95,7 @@ fn first_other(bytes: &[u8]) -> Option<usize>
     bytes.iter().position(|b| *b != 0)
 }
 
-/// So many zeros, each a field; gives the bytes behind them.
+/// So many zeros, each a field; gives the bytes after them.
 #[tactic(auto, unfolding(crate::specs::Reading::zeros_at))]
 pub fn read_zeros(count: usize, end: u64, bytes: &[u8]) -> Result<&[u8], WireErr>
     ensures { Gives (λ x. x.now) result (zeros_at count end bytes.now) }

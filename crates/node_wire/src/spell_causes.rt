@@ -191,7 +191,7 @@ fn put_cause(alloc: Global, out: &mut Output, cause: &Cause) -> Result<(), Alloc
     put_cause_fields(alloc, out, cause)
 }
 
-/// A byte, and a cause behind it.
+/// A byte, and a cause after it.
 #[tactic(auto, using(crate::proofs::Joined::joined_twice))]
 fn put_because(alloc: Global, out: &mut Output, byte: u8, cause: &Cause) -> Result<(), AllocError>
     ensures { OnOk result (out.new ≡ joined out.old (byte ∷ cause_bytes cause.now)) }
@@ -228,7 +228,7 @@ pub fn put_outcome(
     }
 }
 
-/// A byte, and a time behind it.
+/// A byte, and a time after it.
 #[tactic(auto, using(crate::proofs::Joined::joined_twice))]
 fn put_time(out: &mut Output, byte: u8, at: Ts) -> Result<(), AllocError>
     ensures { OnOk result (out.new ≡ joined out.old (byte ∷ long at)) }

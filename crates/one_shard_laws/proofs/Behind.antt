@@ -1,4 +1,4 @@
--- What holds of a shard that runs holds behind its step.
+-- What holds of a shard that runs holds after its step.
 use Rattle.std.proofs.Common.{◌≡◌, ◌⊎◌, inl, inr, ◌≤◌, ◌<◌, ⊎_elim, ◌<ℤ◌, ◌≤ℤ◌, ◌++◌, ℕ, ℤ, Bool}
 use Rattle.std.proofs.Common.{List, [], ◌∷◌, filter_map, All, Contains, Option, Some}
 use Rattle.std.proofs.Common.{None, IfSome, Result, Ok, Err, refl, ap, subst, ◌∙◌, sym, arith}
@@ -135,7 +135,7 @@ event_named : (sent : List Envelope) (w : Happening) → WasSent sent w → Name
 event_named sent (what.Deliver e) h = sent_named sent e h
 event_named sent other h = tt
 
--- What is left behind a message: the commits stay, or one commit more is there.
+-- What is left after a message: the commits stay, or one commit more is there.
 
 pub record Committed (q : Part) (mid : ℕ) (entries : List Entry) (told : List Served)
     (opens : Opens) (r : Option Rec) : Type 0 where

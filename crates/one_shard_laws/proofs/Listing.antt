@@ -1,4 +1,4 @@
--- The commits of one journal behind a record more.
+-- The commits of one journal after a record more.
 use Rattle.std.proofs.Common.{◌≡◌, ◌<◌, ◌||◌, ℕ, ℤ, Bool, true, false, List, [], ◌∷◌, ◌++◌, All}
 use Rattle.std.proofs.Common.{refl, ap, ◌∙◌, arith, if◌then◌else◌}
 use Rattle.std.specs.Ordering.{ordering_then, nat_cmp, is_lt, is_eq}

@@ -1,4 +1,4 @@
--- What holds of one shard's node holds behind what it takes, and where it starts again.
+-- What holds of one shard's node holds after what it takes, and where it starts again.
 use Rattle.std.proofs.Common.{◌≡◌, ◌⊎◌, inl, inr, ⊎_elim, ◌≤◌, ◌+◌, ◌++◌, ℕ, List, [], ◌∷◌}
 use Rattle.std.proofs.Common.{filter_map, All, Contains, Option, Some, None, refl, ap}
 use Rattle.std.proofs.Common.{subst, ◌∙◌, sym, arith, unwrap_or}

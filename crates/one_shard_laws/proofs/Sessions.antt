@@ -1,4 +1,4 @@
--- Sessions go on behind each rule of a participant.
+-- Sessions go on after each rule of a participant.
 use Rattle.std.proofs.Common.{◌≡◌, ◌≤◌, ◌<ℤ◌, ◌≤ℤ◌, ◌||◌, ◌&&◌, ◌-◌, ℕ, ℤ, Bool, true, false, not}
 use Rattle.std.proofs.Common.{List, [], ◌∷◌, Option, Some, None, IfSome, Result, Ok, Err, refl, ap}
 use Rattle.std.proofs.Common.{subst, ◌∙◌, sym, arith, int_lt, nat_eq, nat_lt, if◌then◌else◌}

@@ -89,7 +89,7 @@ abbrev IfStep : (CoreStep → Type 0) → Option CoreStep → Type 0
 IfStep Q None = Unit {0}
 IfStep Q (Some o) = Q o
 
--- the want of memory is told by no answer of a statement that was served
+-- out of memory is told by no answer of a statement that was served
 abbrev WantAlone : Part → Msg → Option Wanting → Type 0
 WantAlone q m None = Unit {0}
 WantAlone q m (Some w) = IsAlone w.letter.1 × ((p : Part) → ServedAtLeast p m w.letter.1)

@@ -28,8 +28,8 @@ pub fn a_step_is_alone()
         → StepAlone (WasNamed sent) s e.what (core_step room s e) }
 {}
 
-/// What holds of a cluster of one shard stays so behind each event, restarts, losses and failed
-/// appends among them; and it holds behind each run that begins on a new disk, whatever its routers
+/// What holds of a cluster of one shard stays so after each event, restarts, losses and failed
+/// appends among them; and it holds after each run that begins on a new disk, whatever its routers
 /// are asked.
 pub fn each_run_of_one_shard_keeps_it()
     ensures step { (old : Nodes) (ran : Ran) (new : Nodes) → Happens old ran new → Stands old
@@ -38,7 +38,7 @@ pub fn each_run_of_one_shard_keeps_it()
         → StartsAlone chunks start → IsTrace start run trace now → OneShard now }
 {}
 
-/// Behind each run of one shard that begins on a new disk: the first committer wins, and each
+/// After each run of one shard that begins on a new disk: the first committer wins, and each
 /// transaction commits once; what several shards would decide is right, as there is none; and the
 /// statements that were served were told what they mean over the commits as they are now, each
 /// commit holds what its transaction's statements wrote, and each Answer that was sent tells of

@@ -148,7 +148,7 @@ pub refused-append : (limit : ℕ) (held more : List ℕ) (error : FrameErr)
 refused-append limit held more error e =
     refused_by limit held more (length_of limit held) error refl e
 
--- Messages one after another, and what is held behind them.
+-- Messages one after another, and what is held after them.
 
 abbrev pub Cuts : ℕ → List ℕ → List (List ℕ) → List ℕ → Type 0
 Cuts limit stream [] held = stream ≡ held

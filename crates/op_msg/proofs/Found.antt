@@ -184,7 +184,7 @@ section_found found kind bytes x h e =
           ]
     ]
 
--- the body and the sequences of what was found and of the sections behind it
+-- the body and the sequences of what was found and of the sections after it
 pub record AreWhole (found : Found) (parts : List grammar.Section)
     (whole : Document × List Sequence) : Type 0 where
   pub body : option_to_list found.0 ++ bodies parts ≡ whole.0 ∷ []
@@ -243,7 +243,7 @@ known : (o : Option ℕ) (flags x : ℕ) → known_by o (Ok flags) ≡ Ok x → 
 known None flags x e = (refl, ok_is flags x e)
 known (Some bit) flags x e = absurd cc
 
--- the sections and the checksum behind them
+-- the sections and the checksum after them
 sum_found : (b : Bool) (bytes inside : List ℕ) → without_sum b bytes ≡ Ok inside
     → (checksum : List ℕ) × (bytes ≡ inside ++ checksum) × (length checksum ≡ cond b 4 0)
 sum_found false bytes inside e = ([], ok_is bytes inside e ∙ sym (append-nil inside), refl)
@@ -256,7 +256,7 @@ sum_found true bytes inside e =
       omega (arith, length-drop (length bytes - 4) bytes),
     )
 
--- what stands behind a header
+-- what stands after a header
 pub record AreContents (bytes : List ℕ) (c : Bool × Document × List Sequence) : Type 0 where
   pub flags : ℕ
   pub parts : List grammar.Section
@@ -316,7 +316,7 @@ second_found (b ∷ bytes) u h e =
     ∙ append-nil f.0 in
     (Some d.0.0, subst (λ (l : List ℕ). Reads 100 d.0.0 l) (sym whole) f.1)
 
--- what stands behind the header of an OP_QUERY
+-- what stands after the header of an OP_QUERY
 pub record AreQuery (bytes : List ℕ) (body : Document) : Type 0 where
   pub query : Query
   pub selector : Option Document

@@ -62,7 +62,7 @@ pub record Begins (bytes : List ℕ) : Type 0 where
   pub header : 16 ≤ length bytes
   pub most : length bytes ≤ 400000000
 
--- what stands behind the length of an OP_MSG
+-- what stands after the length of an OP_MSG
 abbrev behind : ℤ → ℤ → ℕ → List ℕ → List ℕ
 behind request_id response_to flags inside = word (cast_unsigned w32 request_id)
     ++ (word (cast_unsigned w32 response_to) ++ (word 2013 ++ (word flags ++ inside)))
@@ -89,7 +89,7 @@ current_begins f bytes m =
       most = m.limits.most;
     }
 
--- what stands behind the length of an OP_QUERY
+-- what stands after the length of an OP_QUERY
 abbrev pub query_behind : ℤ → ℤ → List ℕ → List ℕ
 query_behind request_id response_to inside = word (cast_unsigned w32 request_id)
     ++ (word (cast_unsigned w32 response_to) ++ (word 2004 ++ inside))

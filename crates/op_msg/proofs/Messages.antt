@@ -149,7 +149,7 @@ older op_code legacy e = by (eqb op_code 2013) (eqb op_code 2004) refl refl lega
     by false true p q false e = absurd cc
     by false false p q legacy e = absurd cc
 
--- The numbers of a header, and what stands behind them.
+-- The numbers of a header, and what stands after them.
 record AreFound (bytes : List ℕ) (header : Header) (legacy : Bool) (inside : List ℕ) : Type 0 where
   spelled : bytes ≡ word (length bytes) ++ (word header.request_id
       ++ (word header.response_to ++ (word (if legacy then 2004 else 2013) ++ inside)))

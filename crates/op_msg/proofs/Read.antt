@@ -109,7 +109,7 @@ name_read : (name rest : List ℕ) → IsName name → name_at (name ++ 0 ∷ re
 unfolding name_at
 name_read name rest h = rw (name_again 0 name rest h) refl
 
--- a sequence's bytes behind its kind
+-- a sequence's bytes after its kind
 abbrev behind_kind : List ℕ → List ℕ → List ℕ → List ℕ
 behind_kind name documents rest =
     word (4 + length name + 1 + length documents) ++ ((name ++ 0 ∷ documents) ++ rest)
@@ -213,7 +213,7 @@ sections_none : (n : ℕ) (found : Found) (bytes : List ℕ) → bytes ≡ []
 unfolding sections_at
 sections_none n found bytes is = rw is refl
 
--- the body and the sequences of what was found and of the sections behind it
+-- the body and the sequences of what was found and of the sections after it
 record AreWhole (found : Found) (parts : List grammar.Section) (one : Document)
     (all : List Sequence) : Type 0 where
   body : option_to_list found.0 ++ bodies parts ≡ one ∷ []
@@ -314,7 +314,7 @@ second_again (Some doc) bytes h small =
     ∙ document_again doc bytes [] h small in
     second_turn bytes some ∙ rw read refl
 
--- what stands behind the header of an OP_QUERY
+-- what stands after the header of an OP_QUERY
 pub query_again : (q : Query) (body : Document) (selector : Option Document) (first second : List ℕ)
     → IsQuery q → Reads 100 body first → MayRead selector second → length first ≤ most
     → length second ≤ most

@@ -25,7 +25,7 @@ is_query (Some code) = code.0 == 2004
 unfoldable pub is_legacy : List ℕ → Bool
 is_legacy bytes = is_query (number_at w32 (drop 12 bytes))
 
--- the flag moreToCome, bit 1 of those behind the header, isn't set; the older form has none
+-- the flag moreToCome, bit 1 of those after the header, isn't set; the older form has none
 abbrev pub more_is_clear : Option (ℕ × List ℕ) → Bool
 more_is_clear None = true
 more_is_clear (Some flags) = not (has_flag 1 flags.0)

@@ -15,7 +15,7 @@ abbrev pub from_name : BsonErr → FrameErr
 from_name document.Memory = Memory
 from_name fault = Section
 
--- want of memory, which no definition answers
+-- out of memory, which no definition answers
 abbrev pub is_memory : FrameErr → Bool
 is_memory Memory = true
 is_memory other = false

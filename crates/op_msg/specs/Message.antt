@@ -82,7 +82,7 @@ ReadsDocuments [] bytes = bytes ≡ []
 ReadsDocuments (doc ∷ docs) bytes = (first : List ℕ) × (rest : List ℕ) × Reads 100 doc first
     × (bytes ≡ first ++ rest) × ReadsDocuments docs rest
 
--- the sections behind one another: those of kind 0 have the documents `bodies`, those of kind 1 are
+-- the sections after one another: those of kind 0 have the documents `bodies`, those of kind 1 are
 -- the sequences
 abbrev pub Section : Type 0
 Section = Document ⊎ Sequence
@@ -151,7 +151,7 @@ abbrev pub MayRead : Option Document → List ℕ → Type 0
 MayRead None bytes = bytes ≡ []
 MayRead (Some doc) bytes = Reads 100 doc bytes
 
--- what stands in an OP_QUERY behind its header and in front of its documents
+-- what stands in an OP_QUERY after its header and in front of its documents
 pub record Query : Type 0 where
   pub flags : ℕ
   pub collection : List ℕ

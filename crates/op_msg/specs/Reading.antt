@@ -39,19 +39,19 @@ abbrev pub as_message : {A : Type 0} → Result A BsonErr → Result A FrameErr
 as_message (Ok x) = Ok x
 as_message (Err e) = Err (from_document e)
 
--- a document and the bytes behind it
+-- a document and the bytes after it
 unfoldable pub document_at : List ℕ → Result (Document × List ℕ) FrameErr
 document_at bytes = as_message (document_of most_internal (take (extent bytes) bytes))
     >>= λ doc. Ok (doc, drop (extent bytes) bytes)
 
--- documents behind those in front, to the end of the bytes: fewer than so many
+-- documents after those in front, to the end of the bytes: fewer than so many
 unfoldable pub documents_at : ℕ → List Document → List ℕ → Result (List Document) FrameErr
 documents_at zero front bytes = Err Section
 documents_at (suc n) front [] = Ok front
 documents_at (suc n) front (b ∷ bytes) =
     document_at (b ∷ bytes) >>= λ x. documents_at n (front ++ x.0 ∷ []) x.1
 
--- the name before the first 00, and the bytes behind it; a name that isn't one is a fault of its
+-- the name before the first 00, and the bytes after it; a name that isn't one is a fault of its
 -- section
 abbrev pub as_section : {A : Type 0} → Result A BsonErr → Result A FrameErr
 as_section (Ok x) = Ok x
@@ -60,7 +60,7 @@ as_section (Err e) = Err Section
 unfoldable pub name_at : List ℕ → Result (List ℕ × List ℕ) FrameErr
 name_at bytes = as_section (document.name_at 0 bytes)
 
--- a section of kind 1, without its kind, and the bytes behind it
+-- a section of kind 1, without its kind, and the bytes after it
 unfoldable pub sequence_at : List ℕ → Result (Sequence × List ℕ) FrameErr
 sequence_at bytes = do
   size ← number bytes
@@ -88,7 +88,7 @@ section_at found kind bytes =
 abbrev pub finish : Found → Result (Document × List Sequence) FrameErr
 finish found = or_fault NoBody found.0 >>= λ body. Ok (body, found.1)
 
--- sections behind what was found, to the end of the bytes: fewer than so many
+-- sections after what was found, to the end of the bytes: fewer than so many
 unfoldable pub sections_at : ℕ → Found → List ℕ → Result (Document × List Sequence) FrameErr
 sections_at zero found bytes = Err Section
 sections_at (suc n) found [] = finish found
@@ -111,7 +111,7 @@ without_sum false bytes = Ok bytes
 without_sum true bytes = if nat_lt (length bytes) 4 then Err Section
     else Ok (take (length bytes - 4) bytes)
 
--- the flags and the sections behind a header
+-- the flags and the sections after a header
 unfoldable pub contents_at : List ℕ → Result (Bool × Document × List Sequence) FrameErr
 contents_at bytes = do
   flags ← number bytes
@@ -120,8 +120,8 @@ contents_at bytes = do
   found ← sections_at (length inside + 1) (None, []) inside
   Ok (has_flag 1 known, found.0, found.1)
 
--- what stands behind the first document of an OP_QUERY: nothing, or a second one, and nothing
--- behind it
+-- what stands after the first document of an OP_QUERY: nothing, or a second one, and nothing
+-- after it
 abbrev pub at_end : List ℕ → Result (Unit {0}) FrameErr
 at_end [] = Ok tt
 at_end (b ∷ bytes) = Err Section
@@ -130,7 +130,7 @@ abbrev pub second_at : List ℕ → Result (Unit {0}) FrameErr
 second_at [] = Ok tt
 second_at (b ∷ bytes) = document_at (b ∷ bytes) >>= λ x. at_end x.1
 
--- the first document of an OP_QUERY, behind its header
+-- the first document of an OP_QUERY, after its header
 unfoldable pub query_at : List ℕ → Result Document FrameErr
 query_at bytes = do
   flags ← number bytes
@@ -141,7 +141,7 @@ query_at bytes = do
   second ← second_at body.1
   Ok body.0
 
--- what stands behind a header: an OP_QUERY is never followed by more, and has no sequences
+-- what stands after a header: an OP_QUERY is never followed by more, and has no sequences
 abbrev pub contents_in : Bool → List ℕ → Result (Bool × Document × List Sequence) FrameErr
 contents_in false bytes = contents_at bytes
 contents_in true bytes = query_at bytes >>= λ body. Ok (false, body, [])

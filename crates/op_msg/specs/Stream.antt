@@ -30,7 +30,7 @@ length_by limit held (Some number) =
 unfoldable pub length_of : ℕ → List ℕ → Result (Option ℕ) FrameErr
 length_of limit held = length_by limit held (number_at w32 held)
 
--- what comes next: a message and the bytes behind it, nothing yet, or a refusal
+-- what comes next: a message and the bytes after it, nothing yet, or a refusal
 abbrev pub Next : Type 0
 Next = Result (Option (List ℕ × List ℕ)) FrameErr
 
@@ -62,7 +62,7 @@ taken_by held (Ok (Some message)) = (message.0 ∷ [], message.1)
 taken_by held (Ok None) = ([], held)
 taken_by held (Err e) = ([], held)
 
--- a run behind these messages
+-- a run after these messages
 abbrev pub behind : List (List ℕ) → Cut → Cut
 behind messages cut = (messages ++ cut.0, cut.1)
 

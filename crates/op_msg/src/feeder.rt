@@ -98,7 +98,7 @@ impl Feeder {
         }
     }
 
-    /// Holds the piece too, behind what is held.
+    /// Holds the piece too, after what is held.
     pub fn feed(&mut self, piece: &[u8]) -> Result<(), FrameErr>
         ensures fed { OnOk result
             (self.new ≡ record self.old { held = self.old.held ++ piece.now }) }
@@ -115,7 +115,7 @@ impl Feeder {
     /// and `TooLarge` where it is above the limit. Both come again at every call. After `Memory`
     /// the call may be made again.
     pub fn next(&mut self) -> Result<Option<Bytes>, FrameErr>
-        // The message, and what is held behind it; none; or a refusal.
+        // The message, and what is held after it; none; or a refusal.
         ensures next { Gives (λ message. option_map (λ bytes. (bytes, self.new.held)) message)
             result (next_of self.old.limit self.old.held) }
         // Memory is wanted for a message alone.
@@ -165,7 +165,7 @@ pub fn cuts_dont_matter()
 
 /// What comes out of a stream of messages are these messages.
 pub fn messages_come_out()
-    // A message within the limit is given, whatever stands behind it; a longer one is refused.
+    // A message within the limit is given, whatever stands after it; a longer one is refused.
     ensures next { (limit : ℕ) (bytes more : List ℕ) → IsMessageWithin limit bytes
         → next_of limit (bytes ++ more) ≡ Ok (Some (bytes, more)) }
     ensures longer { (limit : ℕ) (bytes more : List ℕ) (f : AnyFrame) → IsMessage bytes f
@@ -173,7 +173,7 @@ pub fn messages_come_out()
     // Where nothing comes, no message is held whole.
     ensures none { (limit : ℕ) (bytes more : List ℕ) (f : AnyFrame) → IsMessage bytes f
         → next_of limit (bytes ++ more) ≢ Ok None }
-    // Messages behind one another are given in their order, however they were cut, and nothing is
+    // Messages after one another are given in their order, however they were cut, and nothing is
     // left.
     ensures all { (limit : ℕ) (messages : List (List ℕ)) (steps : List Step)
         → All (IsMessageWithin limit) messages → fed steps ≡ concat messages

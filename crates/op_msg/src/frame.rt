@@ -37,7 +37,7 @@ pub enum FrameErr {
     Flags { bit: u8 },
     /// The flags, the checksum, a section's size or a number of an OP_QUERY don't fit into the
     /// message; or a section is of another kind than 0 and 1, or a name has no end or is no UTF-8;
-    /// or bytes stand behind an OP_QUERY's last document.
+    /// or bytes stand after an OP_QUERY's last document.
     Section,
     /// There is no section of kind 0.
     NoBody,

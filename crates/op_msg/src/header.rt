@@ -24,7 +24,7 @@ fn read_number(bytes: &[u8]) -> Result<(u32, &[u8]), FrameErr>
     }
 }
 
-/// The header, and the bytes behind it.
+/// The header, and the bytes after it.
 #[tactic(auto, unfolding(crate::specs::Reading::header_at))]
 pub fn read_header(bytes: &[u8]) -> Result<(Header, &[u8]), FrameErr>
     ensures { Gives (λ x. (x.0, x.1.now)) result (header_at bytes.now) }

@@ -49,7 +49,7 @@ fn extent(bytes: &[u8]) -> usize
     count
 }
 
-/// The document at the front, and the bytes behind it.
+/// The document at the front, and the bytes after it.
 #[tactic(auto, unfolding(crate::specs::Reading::document_at))]
 fn read_document(alloc: Global, bytes: &[u8]) -> Result<(Doc, &[u8]), FrameErr>
     ensures { Gives (λ x. (x.0, x.1.now)) result (document_at bytes.now) }
@@ -102,7 +102,7 @@ fn read_name(alloc: Global, bytes: &[u8]) -> Result<(Name, &[u8]), FrameErr>
     }
 }
 
-/// A section of kind 1, without its kind, and the bytes behind it.
+/// A section of kind 1, without its kind, and the bytes after it.
 #[tactic(auto, unfolding(crate::specs::Reading::sequence_at))]
 fn read_sequence(alloc: Global, bytes: &[u8]) -> Result<((Name, Items<Doc>), &[u8]), FrameErr>
     ensures { Gives (λ x. (x.0, x.1.now)) result (sequence_at bytes.now) }
@@ -125,7 +125,7 @@ struct Sections {
     seqs: Vec<(Name, Items<Doc>)>,
 }
 
-/// The sections that were found and one more, of that kind, and the bytes behind it.
+/// The sections that were found and one more, of that kind, and the bytes after it.
 #[tactic(auto, unfolding(crate::specs::Reading::section_at))]
 fn read_section(
     alloc: Global,
@@ -217,7 +217,7 @@ fn without_sum(is_there: bool, bytes: &[u8]) -> Result<&[u8], FrameErr>
     Ok(&bytes[..bytes.len() - 4])
 }
 
-/// What a message holds behind its header.
+/// What a message holds after its header.
 #[derive(Drop)]
 struct Contents {
     more: bool,
@@ -250,7 +250,7 @@ fn is_internal(body: &Doc) -> bool
     }
 }
 
-/// What stands behind the first document of an OP_QUERY: nothing, or a second one, which is
+/// What stands after the first document of an OP_QUERY: nothing, or a second one, which is
 /// dropped.
 fn read_second(alloc: Global, bytes: &[u8]) -> Result<(), FrameErr>
     ensures { Gives (λ x. x) result (second_at bytes.now) }
@@ -265,7 +265,7 @@ fn read_second(alloc: Global, bytes: &[u8]) -> Result<(), FrameErr>
     Ok(())
 }
 
-/// The first document of an OP_QUERY: behind flags, a collection's name, and how many documents are
+/// The first document of an OP_QUERY: after flags, a collection's name, and how many documents are
 /// to be passed over and given, none of which counts.
 #[tactic(auto, unfolding(crate::specs::Reading::query_at))]
 fn read_query(alloc: Global, bytes: &[u8]) -> Result<Doc, FrameErr>
@@ -280,7 +280,7 @@ fn read_query(alloc: Global, bytes: &[u8]) -> Result<Doc, FrameErr>
     Ok(body)
 }
 
-/// What stands behind a header, in the older form or in that of today.
+/// What stands after a header, in the older form or in that of today.
 fn read_in_form(alloc: Global, legacy: bool, bytes: &[u8]) -> Result<Contents, FrameErr>
     ensures { Gives (λ c. (c.more, c.body, c.seqs.items)) result (contents_in legacy bytes.now) }
 {

@@ -15,7 +15,7 @@ const MOST: u64 = 400_000_000;
 /// The bytes of the header and of the flags.
 const FRONT_SIZE: u64 = 20;
 
-/// The bytes of a sequence beside its name and its documents: the kind, the size, and the 00 behind
+/// The bytes of a sequence beside its name and its documents: the kind, the size, and the 00 after
 /// the name.
 const SEQUENCE_FRAME: u64 = 6;
 

@@ -1,9 +1,9 @@
--- A result up to want of memory. What a function gives is defined by a function on lists, which
+-- A result up to out of memory. What a function gives is defined by a function on lists, which
 -- takes no memory; the code answers the same, or that memory ran out.
 use Rattle.std.specs.Prelude.{◌≡◌, Bool, Result, Ok, Err}
 use Rattle.std.specs.Bool.{MatchBool}
 
--- an error is the defined one, or want of memory
+-- an error is the defined one, or out of memory
 abbrev pub Refuses : {Y E : Type 0} → (E → Bool) → E → Result Y E → Type 0
 Refuses is_memory error defined = MatchBool (is_memory error) (Unit {0}) (defined ≡ Err error)
 

@@ -16,7 +16,7 @@ use Rattle.outside_core.specs.declared.fuse_disk.FuseDisk.{FuseDisk}
 use Rattle.outside_core.specs.Past.{moments, HadSince, Grew}
 use Rattle.outside_core.specs.MemDisk.{held}
 
--- what lies behind a place in a front of a list
+-- what lies after a place in a front of a list
 behind : (room : List ℕ) (end len : ℕ) → len ≤ length room
     → take (max len end - end) (drop end room) ≡ drop end (take len room)
 behind room end len le = elim (cases_lt len end) [
@@ -80,7 +80,7 @@ torn_whole at old bytes new le holds =
       no_longer = omega arith;
     }
 
--- what a disk in memory holds behind a write within its room
+-- what a disk in memory holds after a write within its room
 pub held_behind : (room : Vec ℕ Global) (inside copied bytes : List ℕ) (at len now : ℕ)
     → inside ≡ room.items → copied ≡ bytes → at ≤ len → len ≤ vec_len room
     → at + length bytes ≤ vec_len room → now ≡ max len (at + length bytes)

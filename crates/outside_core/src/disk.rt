@@ -85,7 +85,7 @@ pub trait Disk {
         ensures faults { FailsOnly DiskErr.Failed
             (fault_count self.old) (fault_count self.new) result };
 
-    /// Behind it a crash leaves what a read gives.
+    /// After it a crash leaves what a read gives.
     fn sync(&mut self) -> Result<(), DiskErr>
         ensures tells { tells self.new ≡ tells self.old }
         ensures seen { IsTrue (tells self.old) → OnOk result (seen self.new ≡ seen self.old) }

@@ -1,13 +1,13 @@
 //! What is asked, word by word.
 use txn_types::{Lsid, Tag, Ts};
 
-/// The words of what is asked; an empty one behind the last.
+/// The words of what is asked; an empty one after the last.
 #[derive(Clone, Copy)]
 pub struct Asked<'a> {
     pub words: &'a [&'a str],
 }
 
-/// The number behind the letter of a word.
+/// The number after the letter of a word.
 fn number_in(word: &str) -> u64 {
     match word.split_at_checked(1) {
         Some((_letter, digits)) => digits.parse::<u64>().unwrap_or(0),
@@ -58,17 +58,17 @@ impl<'a> Asked<'a> {
         }
     }
 
-    /// The number of this word, behind its letter.
+    /// The number of this word, after its letter.
     pub fn at(&self, index: usize) -> u32 {
         self.small(index)
     }
 
-    /// The number of this word, behind its letter; 0, where it is above 255.
+    /// The number of this word, after its letter; 0, where it is above 255.
     pub fn byte_at(&self, index: usize) -> u8 {
         u8::try_from(number_in(self.word(index))).unwrap_or(0)
     }
 
-    /// The time of this word, behind its letter.
+    /// The time of this word, after its letter.
     pub fn time_at(&self, index: usize) -> Ts {
         match self.word(index).split_at_checked(1) {
             Some((_letter, time)) => time_of(time),

@@ -1,4 +1,4 @@
--- A part behind an entry that comes to the commits, behind expiries, and where the clock goes on.
+-- A part after an entry that comes to the commits, after expiries, and where the clock goes on.
 use Rattle.std.proofs.Common.{◌≡◌, ◌≤◌, ◌-◌, ℕ, Bool, true, false, List, [], ◌∷◌, ◌++◌, Option}
 use Rattle.std.proofs.Common.{Some, None, refl, ap, subst, ◌∙◌, sym, nat_lt, if◌then◌else◌}
 use Rattle.std.specs.declared.cmp.Ordering.TheVariants.{Less}

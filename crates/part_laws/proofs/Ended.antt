@@ -1,4 +1,4 @@
--- A part behind an abort, an expiry, a commit, a preparation and a decision.
+-- A part after an abort, an expiry, a commit, a preparation and a decision.
 use Rattle.std.proofs.Common.{◌≡◌, ◌⊎◌, inl, inr, ℕ, Bool, true, false, List, Option, Some, None}
 use Rattle.std.proofs.Common.{refl, ap, subst, ◌∙◌, sym, if◌then◌else◌}
 use Rattle.std.specs.Option.{option_and_then}

@@ -1,4 +1,4 @@
--- A part behind the messages that end transactions, and behind what expires.
+-- A part after the messages that end transactions, and after what expires.
 use Rattle.std.proofs.Common.{◌≡◌, ◌<◌, ℕ, Bool, true, false, not, List, [], ◌∷◌, ◌++◌, Option}
 use Rattle.std.proofs.Common.{Some, None, refl, ap, subst, ◌∙◌, sym, arith, int_lt, nat_eq, nat_le}
 use Rattle.std.proofs.Common.{if◌then◌else◌}

@@ -21,7 +21,7 @@ use Rattle.part_laws.specs.Parts.{IsServing, if_prepared}
 use Rattle.part_laws.specs.Start.{prepared_ones, StandsAgain, Restarts}
 use Rattle.part_laws.proofs.Starting.{kept_some, crash_leaves}
 
--- a prepared transaction is open behind the crash
+-- a prepared transaction is open after the crash
 prepared_by : (x : Opened) (b : Bool) → is_some x.prepared ≡ b → b ≡ true
     → (if b then Some x else None) ≡ Some x
 prepared_by x true is h = refl
@@ -88,7 +88,7 @@ module _ (p q : Part) (opens : Opens) (last : ℕ) (entries : List Entry) (serve
   held_state lsid s state.Released tag x is there same still open_it prepared = cc
   held_state lsid s (state.Aborted why at) tag x is there same still open_it prepared = cc
 
-  -- what is open behind the crash was prepared
+  -- what is open after the crash was prepared
   was_prepared : (lsid : Lsid) (tag : Tag) (st : SessionState) → is_open st ≡ true
       → StandsAgain p lsid tag st → (t : Session) × (session p lsid ≡ Some t) × (t.tag ≡ tag)
       × (is_open t.state ≡ true)

@@ -1,4 +1,4 @@
--- What holds of the first part, and of a store behind a crash.
+-- What holds of the first part, and of a store after a crash.
 use Rattle.std.proofs.Common.{◌≡◌, ◌≤◌, ℕ, Bool, true, false, cond, List, [], ◌∷◌, Option, Some}
 use Rattle.std.proofs.Common.{None, filter, map, option_map, unwrap_or, refl, ap, subst, ◌∙◌, sym}
 use Rattle.std.proofs.Common.{nat_le, if◌then◌else◌}
@@ -246,7 +246,7 @@ crash_leaves store left opens last entries served sound survives =
       none = λ tag o is undecided. sound.none tag o (kept_some (opens tag) o is).0 undecided;
     }
 
--- What a store leaves behind a stop.
+-- What a store leaves after a stop.
 
 kept_or_none : (V : List Version) → unwrap_or (if is_some (first V) then Some V else None) [] ≡ V
 kept_or_none [] = refl

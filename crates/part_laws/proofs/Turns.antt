@@ -1,4 +1,4 @@
--- A part behind a statement.
+-- A part after a statement.
 use Rattle.std.proofs.Common.{◌≡◌, ◌⊎◌, inl, inr, ⊎_elim, ◌<◌, ◌≤◌, ◌||◌, ◌&&◌, ℕ, Bool, true}
 use Rattle.std.proofs.Common.{false, cond, not, List, [], ◌∷◌, Option, Some, None, Result, Ok, Err}
 use Rattle.std.proofs.Common.{find, option_map, refl, ap, subst, ◌∙◌, sym, arith, nat_eq, nat_lt}
@@ -164,7 +164,7 @@ topped_without tag older (Some doc) V apart =
     ∙ ap (λ W. record { stamp = Unfinished tag; doc = doc } ∷ W)
     (filters (λ v. not (is_of older v)) (λ v. not (is_of tag v)) V)
 
--- an older transaction ends before or behind the writes of another
+-- an older transaction ends before or after the writes of another
 pub end_before : (store : Versions) (opens : Opens) (last : ℕ) (entries : List Entry)
     (served : List Served) (tag older : Tag) (writes : List Write) → Rises place_cmp store
     → same_tag tag older ≡ false
@@ -329,7 +329,7 @@ module _ (p : Part) (opens : Opens) (last : ℕ) (entries : List Entry)
         prepared,
       )
 
-  -- What is live behind a statement.
+  -- What is live after a statement.
 
   left_other : (found : Option Open) (other : Lsid) → same_lsid other m.lsid ≡ false
       → open_of (closed p m.lsid found) other ≡ open_of p other

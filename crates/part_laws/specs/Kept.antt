@@ -25,7 +25,7 @@ abbrev pub CommitsBy : Opens → Part → ℕ → ℕ → List Entry → List Se
 CommitsBy old q last later entries served None = (later ≡ last) × Holds old q last entries served
 CommitsBy old q last later entries served (Some r) = Enters old q last entries served r
 
--- behind a commit
+-- after a commit
 abbrev pub Commits : {A : Type 0} → Opens → ℕ → List Entry → List Served → Change A → Type 0
 Commits old last entries served change =
     CommitsBy old change.part last change.last entries served change.rec

@@ -1,4 +1,4 @@
--- The keys of lists by rising key, behind what is put there.
+-- The keys of lists by rising key, after what is put there.
 use Rattle.std.proofs.Common.{◌≡◌, List, [], ◌∷◌, Some, None, map, refl, ap, ◌∙◌, sym}
 use Rattle.std.specs.Map.{lookup}
 use Rattle.std.specs.BTreeMap.{is_at}

@@ -93,7 +93,7 @@ drop_case tag other place V (w ∷ W) store rest is same more =
     row_case place (find (is_of other) (w ∷ W)) (find (is_of other) V) (written_by other rest)
     (written_by other store) (ap is_some same) more
 
--- behind the end of another transaction
+-- after the end of another transaction
 pub keys_dropped : (tag other : Tag) (store : Versions) → same_tag other tag ≡ false
     → keys_of other (dropped tag store) ≡ keys_of other store
 keys_dropped tag other [] apart = refl
@@ -101,7 +101,7 @@ keys_dropped tag other (key ∷ store) apart =
     drop_case tag other key.0 key.1 (without tag key.1) store (dropped tag store) refl
     (found_without tag other key.1 apart) (keys_dropped tag other store apart)
 
--- behind another stamp of another transaction
+-- after another stamp of another transaction
 pub keys_stamped : (tag other : Tag) (stamp : Stamp) (store : Versions) → same_tag other tag ≡ false
     → is_some_and (λ writer. same_tag writer other) (writer_of stamp) ≡ false
     → keys_of other (stamped tag stamp store) ≡ keys_of other store
@@ -111,7 +111,7 @@ keys_stamped tag other stamp (key ∷ store) apart none =
     (written_by other (stamped tag stamp store)) (written_by other store)
     (found_stamped tag other stamp key.1 apart none) (keys_stamped tag other stamp store apart none)
 
--- behind another stamp of its own
+-- after another stamp of its own
 
 own_case : (tag : Tag) (stamp : Stamp) (v : Version) (b : Bool) → is_of tag v ≡ b
     → is_some_and (λ writer. same_tag writer tag) (writer_of stamp) ≡ true

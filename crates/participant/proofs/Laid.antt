@@ -57,7 +57,7 @@ pub undone : (lsid : Lsid) (o : Open) (live : List (Lsid × Open)) → entry_of 
 undone lsid o live none =
     taken_put lsid_cmp lsid_total lsid_exact lsid o live (found lsid_cmp lsid live ∙ none)
 
--- an older transaction goes behind the writes, as if it had gone before them
+-- an older transaction goes after the writes, as if it had gone before them
 older_case : (tag : Tag) (o : Open) (store : Versions) (writes : List Write) (b : Bool)
     → same_tag o.tag tag ≡ b → Rises place_cmp store
     → cond b (with_writes tag store writes) (dropped o.tag (with_writes tag store writes))

@@ -130,7 +130,7 @@ moved lsid p q stands moves = record {
   owned = moves.owned;
 }
 
--- a tag that no session has open behind the change, and not the session that changes before it, no
+-- a tag that no session has open after the change, and not the session that changes before it, no
 -- session had open
 closed_case : (lsid : Lsid) (p q : Part) (tag : Tag) (x : Lsid) (t : Session) (b : Bool)
     → same_lsid x lsid ≡ b → ChangesOnly lsid p q → IsClosed q tag → ((s : Session)
@@ -197,7 +197,7 @@ pub none_live : (p : Part) (lsid : Lsid) → Rises lsid_cmp p.live
 none_live p lsid r = sym (found lsid_cmp lsid (taken_out lsid_cmp lsid p.live))
     ∙ taken_none lsid_cmp lsid_total lsid_exact lsid p.live r
 
--- nobody's versions stand behind the end of a transaction whose own are gone
+-- nobody's versions stand after the end of a transaction whose own are gone
 owned_case : (p q : Part) (store : Versions) (lsid : Lsid) (s : Session) (tag : Tag) (b : Bool)
     → same_tag tag s.tag ≡ b → Stands p → ChangesOnly lsid p q → session p lsid ≡ Some s
     → keys_of s.tag store ≡ []

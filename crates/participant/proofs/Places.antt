@@ -5,7 +5,7 @@ use Rattle.std.specs.List.{list_any, filter_map, cons_option}
 use Rattle.participant.specs.Part.{least}
 use Rattle.participant.specs.Stands.{lesser}
 
--- the element at a place, and those behind it
+-- the element at a place, and those after it
 pub any_at : {A : Type 0} (test : A → Bool) (xs : List A) (i : ℕ)
     → i < length xs → (e : A) × (slice_get xs i ≡ Some e)
     × (list_any test (drop i xs) ≡ (test e || list_any test (drop (suc i) xs)))
@@ -20,7 +20,7 @@ none_past test [] (suc i) past = refl
 none_past test (x ∷ xs) zero past = absurd (omega (arith, past))
 none_past test (x ∷ xs) (suc i) past = none_past test xs i (omega (arith, past))
 
--- what a test finds there, and in those behind it
+-- what a test finds there, and in those after it
 pub kept_at : {A B : Type 0} (f : A → Option B) (xs : List A) (i : ℕ)
     → i < length xs → (e : A) × (slice_get xs i ≡ Some e)
     × (filter_map f (drop i xs) ≡ cons_option (f e) (filter_map f (drop (suc i) xs)))

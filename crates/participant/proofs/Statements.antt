@@ -1,4 +1,4 @@
--- What a statement finds of its transaction, and how a part stands behind it.
+-- What a statement finds of its transaction, and how a part stands after it.
 use Rattle.std.proofs.Common.{◌≡◌, Bool, true, false, cond, List, [], ◌∷◌, ◌++◌, Option, Some, None}
 use Rattle.std.proofs.Common.{IsSome, IfSome, map, refl, ap, subst, ◌∙◌, sym}
 use Rattle.std.specs.declared.cmp.Ordering.{Ordering}
@@ -307,7 +307,7 @@ keys_of_set own writes up =
     (map (λ (row : Place × Write). row.0) (map placed own))) (keys_of_placed writes)
     ∙ ap (all_into place_cmp (map place_of writes)) (keys_of_placed own)
 
--- Behind a statement that is done.
+-- After a statement that is done.
 
 put_entry : (lsid : Lsid) (o : Open) (live : List (Lsid × Open))
     → entry_of lsid (put lsid_cmp lsid o live) ≡ Some o
@@ -426,7 +426,7 @@ pub room_is : (p : Part) (m : Statement) (o : Open) (writes : List Write) → Ri
     → with_open (made_room p m (mine p m)) m o writes ≡ written_part p m o writes
 room_is p m o writes r = room_case p m o writes (open_of p m.lsid) refl r
 
--- Behind a refusal.
+-- After a refusal.
 
 -- a session that isn't open isn't one that is
 not_both : (found_there : Option Session) (now u : Session) → found_there ≡ Some now

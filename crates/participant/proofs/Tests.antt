@@ -68,7 +68,7 @@ pub kept_more : {A : Type 0} (xs : List A) (o : Option A) (rest : List A)
 kept_more xs None rest = ap (λ (ys : List _). ys ++ rest) (append-nil xs)
 kept_more xs (Some a) rest = append_assoc xs (a ∷ []) rest
 
--- the tests of more items behind those of some
+-- the tests of more items after those of some
 pub joined_more : (xs ids : List Id) (rest : Touched)
     → option_map (λ (others : List Id). (xs ++ ids) ++ others) rest ≡ option_map
     (λ (others : List Id). xs ++ others) (option_map (λ (others : List Id). ids ++ others) rest)

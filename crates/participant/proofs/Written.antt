@@ -1,5 +1,5 @@
--- The versions of transactions behind what another one, or the transaction itself, writes, and
--- behind its end.
+-- The versions of transactions after what another one, or the transaction itself, writes, and
+-- after its end.
 use Rattle.std.proofs.Common.{◌≡◌, ℕ, Bool, true, false, cond, not, List, [], ◌∷◌, Option, Some}
 use Rattle.std.proofs.Common.{None, map, find, option_map, unwrap_or, is_some, refl, ap, ◌∙◌, sym}
 use Rattle.std.specs.List.{cons_option}
@@ -39,7 +39,7 @@ abbrev row_of : Place → Option Version → List Left → List Left
 row_of place o rows =
     cons_option (option_map (λ version. let row : Left = (place, version.doc) in row) o) rows
 
--- Behind its end.
+-- After its end.
 
 none_left_case : (tag : Tag) (v : Version) (V : List Version) (b : Bool)
     → is_of tag v ≡ b → find (is_of tag) (without tag V) ≡ None
@@ -98,7 +98,7 @@ pub keys_decided : (tag : Tag) (at : Option ℕ) (store : Versions)
 keys_decided tag (Some at) store = keys_committed tag at store
 keys_decided tag None store = keys_gone tag store
 
--- Behind a write of its own.
+-- After a write of its own.
 
 above_row : (tag : Tag) (low place : Place) (o : Option Version) (rows : List Left)
     → place_cmp low place ≡ Less → AllAbove place_cmp low rows
@@ -202,7 +202,7 @@ keys_left_of [] = refl
 keys_left_of (write ∷ writes) =
     ap (λ (keys : List Place). place_of write ∷ keys) (keys_left_of writes)
 
--- the keys of a transaction behind its writes
+-- the keys of a transaction after its writes
 pub keys_with : (tag : Tag) (store : Versions) (writes : List Write)
     → Rises place_cmp store → keys_of tag (with_writes tag store writes)
     ≡ all_into place_cmp (map place_of writes) (keys_of tag store)
@@ -211,7 +211,7 @@ keys_with tag store writes r =
     ∙ keys_laid place_cmp (written_by tag store) (map left_of writes)
     ∙ ap (λ (keys : List Place). all_into place_cmp keys (keys_of tag store)) (keys_left_of writes)
 
--- Behind the writes of another one.
+-- After the writes of another one.
 
 abbrev keys_in : List Left → List Place
 keys_in rows = map (λ (row : Left). row.0) rows
@@ -287,7 +287,7 @@ keys_with_others tag other store (write ∷ writes) r apart = keys_with_others t
     other (with_write tag store write) writes (rises_with tag store write r) apart
     ∙ keys_with_one tag other store write r apart
 
--- An older transaction ends before or behind the writes of another.
+-- An older transaction ends before or after the writes of another.
 
 above_kept : (low place : Place) (V : List Version) (rows : Versions) (b : Bool)
     → place_cmp low place ≡ Less → AllAbove place_cmp low rows

@@ -116,7 +116,7 @@ mine_of tag (Some o) = if same_tag o.tag tag then Some o else None
 abbrev pub mine : Part → Statement → Option Open
 mine p m = mine_of m.tag (open_of p m.lsid)
 
--- it reads at this time, and the statement comes behind its newest one
+-- it reads at this time, and the statement comes after its newest one
 abbrev pub IsNext : Statement → ℕ → Open → Type 0
 IsNext m at o = (o.read_at ≡ at) × (nat_eq m.k o.k ≡ false) × (nat_lt m.k o.k ≡ false)
 

@@ -22,7 +22,7 @@ fn commit_time(decision: &Decision) -> Option<Ts>
     }
 }
 
-/// How a prepared transaction stands behind the decision.
+/// How a prepared transaction stands after the decision.
 fn state_behind(decision: &Decision) -> SessionState
     ensures { result ≡ state_behind decision.now }
 {

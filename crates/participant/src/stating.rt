@@ -84,7 +84,7 @@ fn is_again(m: &Statement, k: u32) -> bool
     m.k == k
 }
 
-/// Whether the statement comes behind one of a higher place, this one.
+/// Whether the statement comes after one of a higher place, this one.
 fn is_late(m: &Statement, k: u32) -> bool
     ensures { result ≡ nat_lt m.now.k k }
 {
@@ -410,7 +410,7 @@ impl Participant {
         }
     }
 
-    /// What the transaction has behind the statement.
+    /// What the transaction has after the statement.
     fn opened(
         &self,
         wall: u32,

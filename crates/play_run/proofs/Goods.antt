@@ -1,4 +1,4 @@
--- The server's state stays good behind any turns and lines.
+-- The server's state stays good after any turns and lines.
 use Rattle.std.proofs.Common.{ℕ, zero, suc, Bool, true, false, cond, List, [], ◌∷◌, ◌++◌, length}
 use Rattle.std.proofs.Common.{Some, None, Ok, Err}
 use Rattle.op_msg.specs.Stream.{Next, next_of}

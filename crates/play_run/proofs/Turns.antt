@@ -45,7 +45,7 @@ long_enough : (limit : ℕ) (held : List ℕ) (len : ℕ)
 unfolding length_of
 long_enough limit held len found = by_number limit held (number_at w32 held) len found
 
--- so what is held behind one is shorter
+-- so what is held after one is shorter
 rest_shrinks : (limit : ℕ) (held bytes rest : List ℕ) → next_of limit held ≡ Ok (Some (bytes, rest))
     → length rest < length held
 rest_shrinks limit held bytes rest is =
@@ -93,7 +93,7 @@ enough (suc n) (suc m) c s held less also =
     first.more refl (λ more. enough n m c first.server first.held
     (omega (arith, turn_shrinks c s held more)) (omega (arith, turn_shrinks c s held more)))
 
--- all turns are the first, and where more may come, all turns behind it
+-- all turns are the first, and where more may come, all turns after it
 first_and_all : (c : ℕ) (s : State) (held : List ℕ) → (turn c s held).more ≡ true → all_turns c s
     held ≡ and_then (turn c s held) (all_turns c (turn c s held).server (turn c s held).held)
 unfolding all_turns
@@ -123,7 +123,7 @@ pub going_first : (c : ℕ) (server : Server) (feeder : Stream)
     → Going (all_turns c (state_of server) feeder.held) c server feeder []
 going_first c server feeder = record { text = refl; state = refl; held = refl }
 
--- a turn behind which more may come
+-- a turn after which more may come
 pub going_on : (w : Turn) (c : ℕ) (server server' : Server) (feeder feeder' : Stream)
     (before after : List ℕ) → Going w c server feeder before
     → Turned (turn c (state_of server) feeder.held) server' feeder' before after true

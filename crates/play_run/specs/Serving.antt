@@ -26,7 +26,7 @@ number_of (fault.Bson error) = 7
 number_of fault.TooLarge = 8
 number_of fault.Memory = 9
 
--- what a turn on a connection did: what is written, the server behind it, the bytes that are held
+-- what a turn on a connection did: what is written, the server after it, the bytes that are held
 -- still, and whether another turn may do something
 pub record Turn : Type 0 where
   pub text : List ℕ
@@ -34,7 +34,7 @@ pub record Turn : Type 0 where
   pub held : List ℕ
   pub more : Bool
 
--- a message was answered; where its connection was closed, the bytes behind it are dropped
+-- a message was answered; where its connection was closed, the bytes after it are dropped
 abbrev pub answered : ℕ → State → List ℕ → Answer → Turn
 answered connection s rest (Reply bytes) =
     record { text = reply_line connection bytes; server = s; held = rest; more = true }
@@ -54,7 +54,7 @@ turn_by connection s held (Err e) =
 unfoldable pub turn : ℕ → State → List ℕ → Turn
 turn connection s held = turn_by connection s held (next_of most_message held)
 
--- a turn, and what the turns behind it do
+-- a turn, and what the turns after it do
 abbrev pub and_then : Turn → Turn → Turn
 and_then first next = record next { text = first.text ++ next.text }
 
@@ -77,18 +77,18 @@ pub record DeskState : Type 0 where
 abbrev pub first_state : DeskState
 first_state = record { server = node.first_state; held = λ c. [] }
 
--- what a line's bytes do, behind those that its connection holds
+-- what a line's bytes do, after those that its connection holds
 abbrev pub line_turns : DeskState → Asked → Turn
 line_turns d a = all_turns a.connection d.server (d.held a.connection ++ a.bytes)
 
--- behind a line
+-- after a line
 abbrev pub served : DeskState → Asked → DeskState
 served d a = record {
   server = (line_turns d a).server;
   held = λ c. if nat_eq a.connection c then (line_turns d a).held else d.held c;
 }
 
--- behind lines, one after the other
+-- after lines, one after the other
 abbrev pub served_all : DeskState → List Asked → DeskState
 served_all d [] = d
 served_all d (a ∷ asked) = served_all (served d a) asked

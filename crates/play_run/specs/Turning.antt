@@ -1,4 +1,4 @@
--- What the server and a connection's feeder are behind a turn.
+-- What the server and a connection's feeder are after a turn.
 use Rattle.std.specs.Prelude.{◌≡◌, ℕ, Bool, List, ◌++◌, Option, Some, None}
 use Rattle.op_msg.specs.Limits.{most_message}
 use Rattle.op_msg.specs.Stream.{Stream}
@@ -8,12 +8,12 @@ use Rattle.single_node.specs.Standing.{StandsAt}
 use Rattle.single_node.specs.declared.server.Server.{Server}
 use Rattle.play_run.specs.Serving.{number_of, Turn}
 
--- none for want of memory, which closes nothing
+-- none out of memory, which closes nothing
 abbrev pub closing_number : FrameErr → Option ℕ
 closing_number fault.Memory = None
 closing_number error = Some (number_of error)
 
--- the turn's text was written behind what was there, and the server and the feeder stand where it
+-- the turn's text was written after what was there, and the server and the feeder stand where it
 -- ends
 pub record Turned (t : Turn) (server : Server) (feeder : Stream) (before after : List ℕ)
     (goes_on : Bool) : Type 0 where

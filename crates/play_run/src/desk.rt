@@ -13,7 +13,7 @@ use op_msg::{Feeder, FrameErr};
 use single_node::{Answer, Server};
 use std::alloc::{AllocError, Global};
 
-/// The number of a fault that closes a connection; none for want of memory.
+/// The number of a fault that closes a connection; none out of memory.
 fn closing_number(error: FrameErr) -> Option<u8>
     ensures { result ≡ closing_number error }
 {

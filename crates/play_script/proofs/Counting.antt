@@ -30,7 +30,7 @@ lacks_more : (byte : ℕ) (line : List ℕ) (x : ℕ) → Lacks byte line → x 
 lacks_more byte line x lacks other = list_all-append (λ b. not (b == byte)) line (x ∷ [])
     ∙ rw (lacks, ne_eqb x byte other)
 
--- the whole lines are a front of all that is behind them too
+-- the whole lines are a front of all that is after them too
 front_is : (bytes rest : List ℕ) (count : LineCount) (c : Counted bytes count)
     → take count.whole (bytes ++ rest) ≡ c.front
 front_is bytes rest count c = ap (λ n. take n (bytes ++ rest)) (sym c.place)
@@ -123,7 +123,7 @@ line_is_long bytes rest byte count c fewer other longer =
     subst (λ f. IsInput (bytes ++ byte ∷ rest) f LongLine) (sym front)
     (c.last ++ byte ∷ rest, parts, c.whole, omega (arith, c.ended), long)
 
--- a byte behind the most lines
+-- a byte after the most lines
 lines_are_many : (bytes rest : List ℕ) (byte : ℕ) (count : LineCount)
     → Counted bytes count → 10000000 ≤ count.ended
     → IsInput (bytes ++ byte ∷ rest) (take count.whole (bytes ++ byte ∷ rest)) ManyLines
@@ -188,7 +188,7 @@ lines_are_many_at bytes place count within c all =
     subst (λ b. IsInput b (take count.whole b) ManyLines) (sym (byte_at bytes place within))
     (lines_are_many (take place bytes) (drop (place + 1) bytes) (get_or bytes place 0) count c all)
 
--- what a source has left behind the bytes leaves standing why the reading stopped
+-- what a source has left after the bytes leaves standing why the reading stopped
 stopped_more : (bytes more front : List ℕ) (end : End) → IsInput bytes front end → end ≢ Whole
     → IsInput (bytes ++ more) front end
 stopped_more bytes more front Whole stopped stops = absurd (stops refl)
@@ -242,7 +242,7 @@ one_more : (front last : List ℕ) → AreWhole front → Lacks 10 last → 0 < 
 one_more front last whole unended some = lines_of-append front last whole
     ∙ ap (λ l. lines_of front ++ l) (lines_of-last last unended some)
 
--- behind the most lines no line begins
+-- after the most lines no line begins
 few_lines_in : (front last : List ℕ) → AreWhole front → Lacks 10 last
     → length (lines_of front) ≤ 10000000 → (length (lines_of front) ≡ 10000000 → last ≡ [])
     → length (lines_of (front ++ last)) ≤ 10000000

@@ -17,7 +17,7 @@ onto_first-append : (x : ℕ) (parts more : List (List ℕ)) → 0 < length part
 onto_first-append x [] more some = absurd (omega arith)
 onto_first-append x (part ∷ parts) more some = refl
 
--- where a line feed stands, the pieces before it and those behind it
+-- where a line feed stands, the pieces before it and those after it
 step_on : (b : Bool) (x : ℕ) (before behind all : List (List ℕ))
     → 0 < length before → all ≡ before ++ behind
     → cond b ([] ∷ all) (onto_first x all) ≡ cond b ([] ∷ before) (onto_first x before) ++ behind
@@ -31,7 +31,7 @@ pieces-append [] rest = refl
 pieces-append (x ∷ front) rest = step_on (eqb x 10) x (pieces front) (pieces rest)
     (pieces (front ++ 10 ∷ rest)) (some_pieces 10 front) (pieces-append front rest)
 
--- pieces with others behind them are lines
+-- pieces with others after them are lines
 lines_in-append : (parts more : List (List ℕ)) → 0 < length more
     → lines_in (parts ++ more) ≡ parts ++ lines_in more
 lines_in-append [] more some = refl
@@ -51,7 +51,7 @@ unfolding lines_of
 ended front rest = ap lines_in (pieces-append front rest)
     ∙ lines_in-append (pieces front) (pieces rest) (some_pieces 10 rest)
 
--- a line that is ended, and the lines behind it
+-- a line that is ended, and the lines after it
 pub lines_of-ended : (line rest : List ℕ) → Lacks 10 line
     → lines_of (line ++ 10 ∷ rest) ≡ line ∷ lines_of rest
 lines_of-ended line rest lacks = ended line rest
@@ -67,7 +67,7 @@ pub lines_of-last : (line : List ℕ) → Lacks 10 line → 0 < length line → 
 unfolding lines_of
 lines_of-last line lacks some = ap lines_in (one_piece 10 line lacks) ∙ last_line line some
 
--- the same, with the empty text behind it
+-- the same, with the empty text after it
 pub lines_of-whole : (line rest : List ℕ) → Lacks 10 line → 0 < length line → length rest ≡ 0
     → lines_of line ≡ line ∷ lines_of rest
 lines_of-whole line [] lacks some none = lines_of-last line lacks some

@@ -24,5 +24,5 @@ pub record Counted (bytes : List ℕ) (count : LineCount) : Type 0 where
   pub tail : length last ≡ count.tail
   pub few : count.ended ≤ most_lines
   pub short : count.tail ≤ most_line
-  -- no line begins behind the most lines
+  -- no line begins after the most lines
   pub full : count.ended ≡ most_lines → last ≡ []

@@ -27,7 +27,7 @@ IsInput input bytes LongLine = (rest : List ℕ) × (input ≡ bytes ++ rest) ×
 IsInput input bytes ManyLines = (rest : List ℕ) × (input ≡ bytes ++ rest) × AreWhole bytes
     × (length (lines_of bytes) ≡ most_lines) × (0 < length rest)
 
--- nothing is left behind the whole input
+-- nothing is left after the whole input
 abbrev pub IsAtEnd : Option (List ℕ) → End → Type 0
 IsAtEnd left Whole = left ≡ Some []
 IsAtEnd left LongLine = Unit {0}

@@ -20,7 +20,7 @@ use Rattle.play_script.specs.declared.line.LineErr.TheVariants.{Form, Hex, Numbe
 abbrev pub Lacks : ℕ → List ℕ → Type 0
 Lacks byte bytes = list_all (λ b. not (b == byte)) bytes ≡ true
 
--- the pieces as lines: behind the last line feed there is no line where nothing stands
+-- the pieces as lines: after the last line feed there is no line where nothing stands
 abbrev pub lines_in : List (List ℕ) → List (List ℕ)
 lines_in [] = []
 lines_in (x ∷ []) = if length x == 0 then [] else x ∷ []

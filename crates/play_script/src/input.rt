@@ -35,7 +35,7 @@ pub struct Input {
     pub end: End,
 }
 
-/// Where a reading of lines stands: how many have ended, the place behind the last of them, and how
+/// Where a reading of lines stands: how many have ended, the place after the last of them, and how
 /// long the next is so far.
 #[derive(Drop)]
 struct LineCount {

@@ -72,7 +72,7 @@ fn place_of(bytes: &[u8], byte: u8) -> Option<usize>
     bytes.iter().position(|b| *b == byte)
 }
 
-/// The bytes before the first of this byte, and those behind it.
+/// The bytes before the first of this byte, and those after it.
 fn split_at_first(bytes: &[u8], byte: u8) -> Option<(&[u8], &[u8])>
     ensures { MatchOption result (Lacks byte bytes.now)
         (λ x. (bytes.now ≡ x.0.now ++ byte ∷ x.1.now) × Lacks byte x.0.now) }
@@ -81,7 +81,7 @@ fn split_at_first(bytes: &[u8], byte: u8) -> Option<(&[u8], &[u8])>
     Some((&bytes[..at], &bytes[at + 1..]))
 }
 
-/// The first line, and the lines behind it. A line ends by a line feed; the last may lack it.
+/// The first line, and the lines after it. A line ends by a line feed; the last may lack it.
 pub fn next_line(lines: &[u8]) -> (&[u8], &[u8])
     requires { 0 < length lines.now }
     ensures parts { lines_of lines.now ≡ result.0.now ∷ lines_of result.1.now }

@@ -1,4 +1,4 @@
--- What lines ask for, one behind the other; and what is written of messages.
+-- What lines ask for, one after the other; and what is written of messages.
 use Rattle.std.proofs.Common.{◌≡◌, ℕ, suc, ◌+◌, ◌-◌, ◌<◌, List, [], ◌∷◌, ◌++◌, map, sym, ap, ◌∙◌}
 use Rattle.std.proofs.Common.{append_assoc, arith}
 use Rattle.std.specs.List.{range_with_len}
@@ -27,7 +27,7 @@ at_shard n = Event (Shard n) what.Moment
 abbrev pub at_router : ℕ → Want
 at_router n = Event (Router n) what.Moment
 
--- the wants from a number on, and those behind them
+-- the wants from a number on, and those after them
 abbrev pub from_on : (ℕ → Want) → ℕ → ℕ → List Want → List Want
 from_on f k n more = map f (range_with_len k (n - k)) ++ more
 

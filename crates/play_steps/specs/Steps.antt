@@ -31,7 +31,7 @@ names_there p (line.Restart node) = is_there p node
 names_there p (line.Resend node) = is_there p node
 names_there p other = true
 
--- What was given to a node, as far as it matters behind the step.
+-- What was given to a node, as far as it matters after the step.
 
 abbrev pub given_by : Happening → Given
 given_by (what.Client conn bytes) = Client conn (wants_reply bytes)
@@ -71,7 +71,7 @@ abbrev pub message_done : Player → Given → Player
 message_done p (Message number) = done_message p number
 message_done p given = p
 
--- the player behind the answer
+-- the player after the answer
 abbrev pub behind_answer : Player → Given → NodeAnswer → Player
 behind_answer p given (answer.Did out replies closed) =
     message_done (behind_did p given out replies closed) given

@@ -15,7 +15,7 @@ sent_lines number (e ∷ es) = sent_line number e ++ sent_lines (number + 1) es
 abbrev pub where_logs : Bool → List ℕ → List ℕ
 where_logs logs text = if logs then text else []
 
--- The player behind it.
+-- The player after it.
 
 -- a connection that was replied to isn't waited for
 abbrev pub answered : Player → ℕ → Player

@@ -245,7 +245,7 @@ impl<'a> Player<'a> {
         Ok(VecDeque::from_vec(Vec::from_slice(self.alloc, &self.pending)?))
     }
 
-    /// The delivery of a round's first message, behind so many in all; without one the settling
+    /// The delivery of a round's first message, after so many in all; without one the settling
     /// ends.
     fn deliver(&mut self, count: u64, progress: bool, left: VecDeque<u64>) -> Option<Want>
         ensures { delivers self.old count progress left.items ≡ ([], result, self.new) }
@@ -318,7 +318,7 @@ impl<'a> Player<'a> {
         }
     }
 
-    /// Puts a want behind those that lines have asked for.
+    /// Puts a want after those that lines have asked for.
     fn enqueue(&mut self, want: Want) -> Result<(), AllocError>
         ensures { OnOk result (self.new ≡ queued self.old (want ∷ [])) }
     {
@@ -505,7 +505,7 @@ impl<'a> Player<'a> {
         }
     }
 
-    /// What comes next; what is written before it is put behind `out`.
+    /// What comes next; what is written before it is put after `out`.
     pub fn next<L: CommitList>(
         &mut self,
         commits: &L,

@@ -142,7 +142,7 @@ impl<'a> Player<'a> {
         self.serve_first(replies)
     }
 
-    /// What a node answered: what is written of it is put behind `out`, and what follows.
+    /// What a node answered: what is written of it is put after `out`, and what follows.
     pub fn took(
         &mut self,
         given: Given,

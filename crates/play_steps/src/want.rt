@@ -22,7 +22,7 @@ pub enum Want {
     Spent,
 }
 
-/// What was given to a node, as far as it matters behind the step: the connection, where it was a
+/// What was given to a node, as far as it matters after the step: the connection, where it was a
 /// client's message, and whether its sender wants a reply; or the number of a message.
 #[derive(Clone, Copy)]
 pub enum Given {
@@ -31,7 +31,7 @@ pub enum Given {
     Other,
 }
 
-/// What happens to a node, as far as it matters behind the step.
+/// What happens to a node, as far as it matters after the step.
 fn given_by(happening: &Happening) -> Given
     ensures { result ≡ given_by happening.now }
 {

@@ -1,4 +1,4 @@
--- Writes by rising shard are the shares of the shards, one behind the other.
+-- Writes by rising shard are the shares of the shards, one after the other.
 use Rattle.std.proofs.Common.{◌≡◌, ℕ, ◌+◌, ◌-◌, ◌<◌, ◌≤◌, max, Bool, true, false, cond, zero, suc}
 use Rattle.std.proofs.Common.{List, [], ◌∷◌, ◌++◌, filter, refl, ap, ◌∙◌, arith, nat_eq, nat_lt}
 use Rattle.std.proofs.Common.{if◌then◌else◌}
@@ -23,7 +23,7 @@ less a b h = grind arith
 not_less : (a b : ℕ) → b ≤ a → is_lt (nat_cmp a b) ≡ false
 not_less a b h = grind arith
 
--- A write goes behind those of lower shards.
+-- A write goes after those of lower shards.
 
 share_case : (place : Place → ℕ) (w x : Write) (mine rest : List Write) (a : ℕ) (b : Bool)
     → a < key place w → nat_eq (key place x) a ≡ b

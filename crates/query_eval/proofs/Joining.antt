@@ -21,7 +21,7 @@ sum_small (n ∷ counts) = omega arith
 pub capped_small : (n : ℕ) → n ≤ 2 ^ 63 - 1 → capped (0 + n) ≡ n
 capped_small n h = omega arith
 
--- marks, and one more behind them
+-- marks, and one more after them
 mark_by : Document → List Mark → Option Id → List Mark
 mark_by doc rest o = elim o [ None ↦ rest | Some id ↦ (id, Some doc) ∷ rest ]
 

@@ -158,7 +158,7 @@ kept_taken f id [] rising = refl
 kept_taken f id (row ∷ rows) rising =
     kept_taken_case f id row rows (id_cmp id row.0) refl rising.0 (kept_taken f id rows rising.1)
 
--- one list behind another
+-- one list after another
 append_case : {A B : Type 0} (f : A → Option B) (row : Id × A) (xs ys : List (Id × A))
     (q : Option B) → f row.1 ≡ q → kept f (xs ++ ys) ≡ kept f xs ++ kept f ys
     → kept f (row ∷ (xs ++ ys)) ≡ kept f (row ∷ xs) ++ kept f ys

@@ -20,7 +20,7 @@ use Rattle.query_eval.specs.Held.{doc_in, fitting_in, mark_of, some_of, rows_in}
 use Rattle.query_eval.specs.declared.held.Held.{Held}
 use Rattle.query_eval.proofs.Acting.{found}
 
--- documents that were told, and what is told behind them
+-- documents that were told, and what is told after them
 abbrev pub behind : List Document → Found → Found
 behind docs told = (docs ++ told.0, told.1)
 
@@ -133,7 +133,7 @@ pub fitting_not : (room : ℕ) (held : Held) (doc : Document) → doc_in held �
 fitting_not room held doc is h = ap (fits_by room) is
     ∙ ap (λ b. if b then Some doc else None) (lt-leb (length (spelling doc)) room h)
 
--- the element at a place, in front of those behind it
+-- the element at a place, in front of those after it
 pub place_is : {A : Type 0} (xs : List A) (i : ℕ) (x : A) → x ≡ get_or xs i x → i < length xs
     → drop i xs ≡ x ∷ drop (i + 1) xs
 place_is {A} xs i x is h = let next : suc i ≡ i + 1 = omega arith in

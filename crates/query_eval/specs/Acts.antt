@@ -19,7 +19,7 @@ use Rattle.query_eval.specs.declared.evaluating.Met.{Met}
 use Rattle.query_eval.specs.declared.held.Held.{Held}
 use Rattle.query_eval.specs.declared.held.Held.TheVariants.{Own, Nothing}
 
--- the error is this refusal, or want of memory
+-- the error is this refusal, or out of memory
 abbrev pub IsRefusal : EvalErr → OpErr → Type 0
 IsRefusal (Op e) refusal = e ≡ refusal
 IsRefusal Memory refusal = Unit {0}
@@ -29,7 +29,7 @@ abbrev pub change_of : Row → Option Document → Done
 change_of row None = record { met = row ∷ []; changed = [] }
 change_of row (Some doc) = record { met = row ∷ []; changed = (row.0, doc) ∷ [] }
 
--- the error tells why the definition refuses; want of memory says nothing of it
+-- the error tells why the definition refuses; out of memory says nothing of it
 abbrev pub Refuses : {A : Type 0} → EvalErr → Result A OpErr → Type 0
 Refuses (Op e) means = means ≡ Err e
 Refuses Memory means = Unit {0}
@@ -108,7 +108,7 @@ abbrev pub Acts : (Document → Option Document) → (List Row → List Row → 
 Acts content left doing before after (Ok met) = Acted content left doing before after met
 Acts content left doing before after (Err e) = Refuses e doing
 
--- what an operation gives: its meaning, or want of memory
+-- what an operation gives: its meaning, or out of memory
 abbrev pub Means : Result (OpReply × List Write) EvalErr → Meaning → Type 0
 Means (Ok m) meaning = meaning ≡ Ok m
 Means (Err e) meaning = Refuses e meaning

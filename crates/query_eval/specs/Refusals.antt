@@ -1,4 +1,4 @@
--- What a call of `apply` gives: the result that the definition has, or want of memory.
+-- What a call of `apply` gives: the result that the definition has, or out of memory.
 use Rattle.std.specs.Prelude.{◌≡◌, Option, Some, None, Result, Ok, Err}
 use Rattle.txn_types.specs.declared.operation.What.{What}
 use Rattle.txn_types.specs.declared.operation.What.TheVariants as what
@@ -6,7 +6,7 @@ use Rattle.query_eval.specs.declared.error.ApplyErr.{ApplyErr}
 use Rattle.query_eval.specs.declared.error.ApplyErr.TheVariants.{NotNumber, Overflow, Immutable}
 use Rattle.query_eval.specs.declared.error.ApplyErr.TheVariants.{TooLarge, Memory}
 
--- the error tells why the definition refuses; want of memory says nothing of it
+-- the error tells why the definition refuses; out of memory says nothing of it
 abbrev pub Tells : {A : Type 0} → ApplyErr → Result A What → Type 0
 Tells NotNumber means = means ≡ Err what.NotNumber
 Tells Overflow means = means ≡ Err what.Overflow

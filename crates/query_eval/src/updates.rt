@@ -71,7 +71,7 @@ fn increased(doc: &Doc, name: &str, amount: &Value) -> Result<Value, ApplyErr>
     }
 }
 
-/// These fields, and behind them the document's fields of other names.
+/// These fields, and after them the document's fields of other names.
 fn and_without_name(
     alloc: Global,
     mut fields: Vec<(Name, Value)>,
@@ -88,7 +88,7 @@ fn and_without_name(
     Ok(fields)
 }
 
-/// The document with the value at its place, or behind the others.
+/// The document with the value at its place, or after the others.
 fn with_value(alloc: Global, mut doc: Doc, name: &Name, value: Value) -> Result<Doc, AllocError>
     ensures { IfOk result (λ new. new ≡ with_value name.now value doc) }
 {

@@ -1,4 +1,4 @@
--- What is written of a field is read again, whatever stands behind it.
+-- What is written of a field is read again, whatever stands after it.
 use Rattle.std.proofs.Common.{◌≡◌, ℕ, ℤ, suc, ◌^◌, ◌<◌, false, ltb, List, [], ◌∷◌, ◌++◌, length}
 use Rattle.std.proofs.Common.{position, not, eqb, Some, None, Ok, refl, ap, ◌∙◌, append_assoc}
 use Rattle.std.proofs.Common.{arith}

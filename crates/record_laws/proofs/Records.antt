@@ -28,7 +28,7 @@ use Rattle.record_laws.proofs.Fields.{zeros_again, tag_again, named_again, decis
 use Rattle.record_laws.proofs.Fields.{parts_again}
 use Rattle.record_laws.proofs.Writes.{writes_again}
 
--- with nothing behind it
+-- with nothing after it
 pub alone : {A : Type 0} (read : List ℕ → Found A) (bytes : List ℕ) (x : A) → IsReadAs read bytes x
     → read bytes ≡ Ok (x, [])
 alone read bytes x h = ap read (sym (append-nil bytes)) ∙ h []

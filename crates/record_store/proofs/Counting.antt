@@ -23,7 +23,7 @@ begins_case place at byte first front file true same le is more = let e : first 
 begins_case place at byte first front file false same le is more = let e : place ≡ at = cc in
     absurd (omega (arith, e, le))
 
--- a file whose fault stands behind this front begins with it
+-- a file whose fault stands after this front begins with it
 begins : (place at : ℕ) (front file : List ℕ) → place + length front ≤ at
     → read_behind place front file ≡ Err at → take (length front) file ≡ front
 begins place at [] file le is = refl

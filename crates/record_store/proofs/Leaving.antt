@@ -21,7 +21,7 @@ rest_leaves frames hand seen may_leave count end rests fits c now =
     ([], rests.durable c now ∙ sym (append-nil seen))
 
 module _ {D : Type 0} (d : Ghosts D) where
-  -- calls that only look, behind a run
+  -- calls that only look, after a run
   pub looked : (a b c : D) (P : List ℕ → Type 0) → LeavesOnly d.moment d.left_since a b P
       → ((t : ℕ) (f : List ℕ) → t ≤ d.moment b → d.may_leave b f → d.left_since b t f)
       → Looks d.seen d.may_leave d.moment d.left_since b c

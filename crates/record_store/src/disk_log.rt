@@ -107,7 +107,7 @@ impl<D: Disk> DiskLog<D> {
         }
     }
 
-    /// Adds a record, whose bytes behind its front are in the payload. It takes no memory.
+    /// Adds a record, whose bytes after its front are in the payload. It takes no memory.
     pub fn put(&mut self, rec: Rec, payload: &mut Payload) -> Result<(), DiskErr>
         requires open { self.old.journal.closed ≡ false }
         requires room { 0 < self.old.room }

@@ -42,7 +42,7 @@ pub trait RecordLog {
         ensures closed { is_closed self.new ≡ is_closed self.old }
         ensures faults { fault_count self.new ≡ fault_count self.old };
 
-    /// Adds a record, whose bytes behind its front are in the payload. It takes no memory.
+    /// Adds a record, whose bytes after its front are in the payload. It takes no memory.
     fn append(&mut self, rec: Rec, payload: &mut Payload) -> Result<(), DiskErr>
         requires open { is_closed self.old ≡ false }
         requires room { 0 < room self.old }

@@ -12,7 +12,7 @@ use txn_types::{Parts, Write};
 /// How many bytes the front of a record has at most.
 const FRONT: usize = 64;
 
-/// What a record that is to be appended may carry behind its front, its writes or its participants,
+/// What a record that is to be appended may carry after its front, its writes or its participants,
 /// with room for a front. It is made before the record is there, so that the record itself is
 /// appended without memory.
 #[derive(Drop)]
@@ -30,7 +30,7 @@ impl Model for Payload {
     ghost invariant = { λ p. (64 ≤ length p.bytes.items) × (length p.bytes.items ≤ 134217728) };
 }
 
-/// Whether records of this kind carry anything behind their front.
+/// Whether records of this kind carry anything after their front.
 fn carries(rec: &Rec) -> bool
     ensures some { result ≡ false → body_bytes rec.now ≡ [] }
     ensures none { result ≡ true → body_bytes rec.now ≢ [] }

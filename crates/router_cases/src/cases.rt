@@ -10,10 +10,10 @@ use std::alloc::{AllocError, Global};
 /// something:
 ///
 /// - `shards N`, and `range NAMESPACE SHARD` or `range NAMESPACE SHARD from ID`: how many shards
-///   the routers behind it
+///   the routers after it
 ///   have, and their ranges, front to back; an id is a number or a text.
 /// - `router N boot B`: a new router, at the wall 1.
-/// - `wall SECONDS`: the moment of the events behind it.
+/// - `wall SECONDS`: the moment of the events after it.
 ///
 /// Events:
 ///

@@ -5,7 +5,7 @@ use sqlite_items::Items;
 use std::alloc::{AllocError, Global};
 use txn_types::{Acked, Answer, Cause, Docs, Envelope, Id, Msg, NodeId, OpReply, Outcome, Told};
 
-/// The number of a shard, behind the letter s.
+/// The number of a shard, after the letter s.
 fn shard_of(word: &str) -> Option<u16> {
     match word.strip_prefix("s") {
         Some(digits) => digits.parse::<u16>().ok(),
@@ -35,7 +35,7 @@ fn document(alloc: Global, word: &str) -> Result<Doc, AllocError> {
     Ok(Items::from_vec(fields))
 }
 
-/// The rows that a find answered, in the words that are left, and the id behind the word `cut`.
+/// The rows that a find answered, in the words that are left, and the id after the word `cut`.
 fn rows(alloc: Global, words: Words) -> Result<OpReply, AllocError> {
     let mut docs: Docs = Items::new(alloc);
     let mut cut = None;

@@ -74,7 +74,7 @@ impl<'a> Words<'a> {
         self.words.next().unwrap_or("")
     }
 
-    /// The word behind the next, which says what it is.
+    /// The word after the next, which says what it is.
     fn behind(&mut self) -> &'a str {
         let _name = self.next();
         self.next()
@@ -97,7 +97,7 @@ impl<'a> Words<'a> {
         self.next().parse::<u16>().unwrap_or(0)
     }
 
-    /// A number behind its name.
+    /// A number after its name.
     pub fn number(&mut self) -> u64 {
         self.behind().parse::<u64>().unwrap_or(0)
     }
@@ -123,22 +123,22 @@ impl<'a> Words<'a> {
         time_of(self.next())
     }
 
-    /// A time behind its name.
+    /// A time after its name.
     pub fn time(&mut self) -> Ts {
         time_of(self.behind())
     }
 
-    /// A tag behind the word `tag`.
+    /// A tag after the word `tag`.
     pub fn tag(&mut self) -> Tag {
         tag_of(self.behind())
     }
 
-    /// An id behind the name of its kind.
+    /// An id after the name of its kind.
     fn id(&mut self, alloc: Global) -> Result<Id, AllocError> {
         id_of(alloc, self.behind())
     }
 
-    /// A tag behind the word `tag`, or a time behind the word `at`.
+    /// A tag after the word `tag`, or a time after the word `at`.
     fn by(&mut self) -> By {
         match self.next() {
             "at" => By::At(self.moment()),
@@ -153,7 +153,7 @@ impl<'a> Words<'a> {
         Ok(OpErr { index, id, what })
     }
 
-    /// A cause behind its name.
+    /// A cause after its name.
     pub fn cause(&mut self, alloc: Global) -> Result<Cause, AllocError> {
         match self.next() {
             "conflict" => {

@@ -17,7 +17,7 @@ use Rattle.router_core.proofs.Both.{both_assoc, both_nothing}
 abbrev pub Act : Type 0
 Act = Lsid → Session → Deed
 
--- an entry behind it
+-- an entry after it
 abbrev pub behind : Act → Lsid × Session → Lsid × Session
 behind act entry = (entry.0, (act entry.0 entry.1).session)
 
@@ -132,7 +132,7 @@ given_still act k xs d given next all is within acted so put =
     ap (λ (g : Given). both g (each_session act (drop (k + 1) xs)).1) put
     ∙ given_same act given k xs d is within (sym acted) ∙ so
 
--- behind the last place
+-- after the last place
 front_end : (act : Act) (k : ℕ) (xs : BySession Session) → length xs ≤ k
     → front act k xs ≡ (each_session act xs).0
 front_end act k [] h = refl

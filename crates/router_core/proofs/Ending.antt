@@ -40,7 +40,7 @@ with_same lsid session [] h = cc
 with_same lsid session (entry ∷ sessions) h = same_case lsid session entry sessions (same_lsid lsid
     entry.0) refl (with_same lsid session sessions) h
 
--- one end behind the others
+-- one end after the others
 ends_state : (s : RouterState) (m : Move) (lsid : Lsid) (rest : List Lsid)
     → m ≡ end_session s lsid (session_of s lsid)
     → (end_sessions m.state rest).state ≡ (end_sessions s (lsid ∷ rest)).state

@@ -1,4 +1,4 @@
--- A router stays safe behind each event, and what it replies can be spelled.
+-- A router stays safe after each event, and what it replies can be spelled.
 use Rattle.std.proofs.Common.{◌≡◌, ◌&&◌, ℕ, ℤ, pos, ◌+◌, ◌≤◌, ◌≤ℤ◌, ◌-◌, ◌^◌, Bool, true, false}
 use Rattle.std.proofs.Common.{not, List, [], ◌∷◌, length, Option, Some, None, Result, Ok, Err, refl}
 use Rattle.std.proofs.Common.{sym, subst, ◌∙◌, arith, nat_le, if◌then◌else◌}
@@ -258,7 +258,7 @@ also_held : (move : Move) (asker : Asker) (legacy : Bool) (r : Reply) → IsHeld
 also_held move asker legacy r held fits =
     record { state = held.state; replies = both_fit move.given.replies _ held.replies (fits, tt) }
 
--- behind the times of a request, of a message, and of an event
+-- after the times of a request, of a message, and of an event
 met_safe : (s : RouterState) (time after : Option ℕ) → IsSafe s → IsSafe (met s time after)
 met_safe s time after safe =
     record { map = safe.map; shards = safe.shards; sessions = safe.sessions }
@@ -540,7 +540,7 @@ happened_held s what.Moment safe = still_held s safe
 walled_safe : (s : RouterState) (wall : ℕ) → IsSafe s → IsSafe (walled s wall)
 walled_safe s wall safe = record { map = safe.map; shards = safe.shards; sessions = safe.sessions }
 
--- a router behind these is one that is safe
+-- a router after these is one that is safe
 pub met_holds : (s t : RouterState) (time after : Option ℕ) → IsSafe s
     → t ≡ met s time after → IsSafe t
 met_holds s t time after safe is = subst IsSafe (sym is) (met_safe s time after safe)
@@ -557,7 +557,7 @@ pub planned_fits : (s t : RouterState) (wall : ℕ) (h : Happening) (move : Move
 planned_fits s t wall h move safe at is = subst (λ (m : Move).
     AllFit m.given.replies) (sym is) (happened_held t h (walled_holds s t wall safe at)).replies
 
--- so the state behind a step is safe
+-- so the state after a step is safe
 step_safe : (s : RouterState) (e : NodeEvent) → IsSafe s → IsSafe (router_step false s e).state
 unfolding router_step
 step_safe s e safe = (happened_held (walled s e.wall) e.what (walled_safe s e.wall safe)).state

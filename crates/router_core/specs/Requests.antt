@@ -54,7 +54,7 @@ abbrev pub left_of : Lsid → Option Session → List Post
 left_of lsid None = []
 left_of lsid (Some session) = leaves lsid session
 
--- the router behind the choice
+-- the router after the choice
 abbrev pub drawn : RouterState → ℕ → RouterState
 drawn s read_at = record (timed s read_at) { serial = s.serial + 1 }
 

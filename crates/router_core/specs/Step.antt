@@ -29,7 +29,7 @@ use Rattle.router_core.specs.Requests.{serves}
 use Rattle.router_rules.specs.Resends.{resent}
 use Rattle.router_rules.specs.Serving.{answered_in, ended_in}
 
--- the state behind a step, the messages and replies that it gives out, and the number of the
+-- the state after a step, the messages and replies that it gives out, and the number of the
 -- refusal that closes the event's connection
 pub record RouterTurn : Type 0 where
   pub state : RouterState

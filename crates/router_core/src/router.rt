@@ -109,7 +109,7 @@ impl Router {
         self.base.boot
     }
 
-    /// Takes an event, and tells what is given out. For want of memory nothing has changed.
+    /// Takes an event, and tells what is given out. Out of memory, nothing has changed.
     pub fn step(&mut self, event: &NodeEvent) -> Result<Turn, AllocError>
         ensures state { OnOk result (self.new ≡ (router_step false self.old event.now).state) }
         ensures turn { IfOk result (λ t. IsTurn (router_step false self.old event.now) t) }

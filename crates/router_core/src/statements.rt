@@ -27,7 +27,7 @@ fn left_of(alloc: Global, lsid: Lsid, session: Option<&Session>) -> Result<Posts
     }
 }
 
-/// A deed behind what is left of the session's older transaction.
+/// A deed after what is left of the session's older transaction.
 fn behind_left(
     alloc: Global,
     lsid: Lsid,
@@ -69,7 +69,7 @@ fn begun_at(
     }
 }
 
-/// The router's numbers behind the choice of what is read at.
+/// The router's numbers after the choice of what is read at.
 fn drawn(base: &Base, chunks: &ChunkMap, sessions: &[(Lsid, Session)], read_at: Ts) -> Base
     requires { base.now.serial < 2 ^ 63 - 1 }
     ensures { state_of result chunks.now sessions.now

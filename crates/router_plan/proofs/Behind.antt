@@ -1,4 +1,4 @@
--- What is known behind a refusal that didn't come.
+-- What is known after a refusal that didn't come.
 use Rattle.std.proofs.Common.{◌≡◌, ◌&&◌, ℕ, ◌<◌, ◌-◌, ◌^◌, Bool, true, false, List, ◌∷◌, Option}
 use Rattle.std.proofs.Common.{Some, None, refl, subst, arith, nat_le}
 use Rattle.std.specs.Prelude.{is_none}

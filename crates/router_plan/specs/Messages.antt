@@ -55,7 +55,7 @@ read_by wall (Err error) = Err (from_message error)
 unfoldable pub asked_in : ℕ → List ℕ → Result Request Unserved
 asked_in wall bytes = read_by wall (frame_of bytes)
 
--- want of memory, which no definition answers
+-- out of memory, which no definition answers
 abbrev pub is_memory : Unserved → Bool
 is_memory Memory = true
 is_memory other = false

@@ -99,7 +99,7 @@ spent s session number = spent_at s.serial session number
 abbrev pub many_shards : Map → Op → Option Reply
 many_shards chunks op = where_so (has_spread chunks op) refusal.ManyShards
 
--- behind the refusals: the transaction is known as aborted
+-- after the refusals: the transaction is known as aborted
 abbrev pub is_aborted : Phase → Bool
 is_aborted (Aborted sent) = true
 is_aborted other = false

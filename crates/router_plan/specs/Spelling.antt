@@ -10,6 +10,6 @@ use Rattle.router_state.specs.declared.deed.Sent.{Sent}
 abbrev pub letter_of : Post → Letter
 letter_of post = (Shard post.0, post.1)
 
--- the bytes of a reply, at the router's time behind the step
+-- the bytes of a reply, at the router's time after the step
 abbrev pub spelled : ℕ → Sent → ℕ × List ℕ
 spelled time sent = (sent.conn, message (reply_frame sent.reply sent.request sent.legacy time))

@@ -29,7 +29,7 @@ fn put_places(sessions: &mut Table, places: Vec<(usize, (Lsid, Session))>)
     }
 }
 
-/// Makes the change. For want of memory the sessions are as they were.
+/// Makes the change. Out of memory, the sessions are as they were.
 pub fn make(sessions: &mut Table, change: Change) -> Result<(), AllocError>
     requires { FitsIn (length sessions.old) change }
     ensures ok { OnOk result (sessions.new ≡ changed change sessions.old) }

@@ -53,7 +53,7 @@ pub fn envelopes(
     Ok(out)
 }
 
-/// The bytes of a reply, at the router's time behind the step. A reply of more than 400,000,000
+/// The bytes of a reply, at the router's time after the step. A reply of more than 400,000,000
 /// bytes finds no memory.
 fn spelled(alloc: Global, time: Ts, sent: &Sent) -> Result<Bytes, AllocError>
     requires { FitsReply sent.now.reply }

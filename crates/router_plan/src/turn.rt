@@ -24,7 +24,7 @@ pub struct Turn {
     pub closed: Option<u8>,
 }
 
-/// The turn that gives these out, at the router's time behind the step.
+/// The turn that gives these out, at the router's time after the step.
 pub fn turn_of(
     alloc: Global,
     base: &Base,

@@ -1,4 +1,4 @@
--- What the sessions of a router keep to, behind each event in them.
+-- What the sessions of a router keep to, after each event in them.
 use Rattle.std.proofs.Common.{◌≡◌, ◌&&◌, ℕ, ℤ, ◌+◌, ◌^◌, ◌<◌, ◌≤◌, Bool, true, false, not, List, []}
 use Rattle.std.proofs.Common.{◌∷◌, map, length, Option, Some, None, refl, sym, subst, arith, nat_eq}
 use Rattle.std.proofs.Common.{if◌then◌else◌}

@@ -1,4 +1,4 @@
--- A router's state stays safe behind each event, and its replies can be spelled.
+-- A router's state stays safe after each event, and its replies can be spelled.
 use Rattle.std.proofs.Common.{◌≡◌, ℕ, pos, ◌≤◌, ◌≤ℤ◌, Bool, true, false, List, [], ◌∷◌, ◌++◌}
 use Rattle.std.proofs.Common.{Option, Some, refl, sym, subst, arith, if◌then◌else◌}
 use Rattle.std.specs.Prelude.{option_map}

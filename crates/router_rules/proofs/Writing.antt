@@ -1,4 +1,4 @@
--- The shards that have written are different ones, also behind an answer.
+-- The shards that have written are different ones, also after an answer.
 use Rattle.std.proofs.Common.{◌≡◌, ◌||◌, ◌&&◌, ℕ, ◌<◌, ◌≤◌, Bool, true, false, cond, not, List, []}
 use Rattle.std.proofs.Common.{◌∷◌, ◌++◌, filter, length, Option, Some, None, Result, Ok, Err, refl}
 use Rattle.std.proofs.Common.{ap, sym, subst, ◌∙◌, arith, nat_eq, nat_lt, if◌then◌else◌}
@@ -248,7 +248,7 @@ last_of true true c h = h
 last_of true false c h = cc
 last_of false b c h = cc
 
--- behind an answer that is waited for
+-- after an answer that is waited for
 pub taken_room : (a : Answer) (t : Transaction) (asker : Asker) (op : Op)
     (answers : List (ℕ × Answer)) → IsSafeTransaction t → t.phase ≡ Asking asker op answers
     → is_waited a.shard t.waiting ≡ true

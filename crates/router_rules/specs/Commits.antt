@@ -68,7 +68,7 @@ commits_by lsid number asker t (first ∷ more) =
 abbrev pub commits : Lsid → ℤ → Option Asker → Transaction → Deed
 commits lsid number asker t = commits_by lsid number asker t (readers t)
 
--- A request to commit a transaction that was begun here, behind its refusals: a known end is told
+-- A request to commit a transaction that was begun here, after its refusals: a known end is told
 -- again; an unanswered commit is listened to; and a shard whose answer wasn't kept is asked again.
 abbrev pub listens : Lsid → ℤ → Asker → Transaction → Deed
 listens lsid number asker t =

@@ -80,7 +80,7 @@ pub fn few_shards_write()
     ensures { (t : Transaction) → IsSafeTransaction t → length t.wrote ≤ 65535 }
 {}
 
-/// And so can they behind an answer that is waited for.
+/// And so can they after an answer that is waited for.
 pub fn few_shards_write_behind_an_answer()
     ensures { (a : Answer) (t : Transaction) (asker : Asker) (op : Op) (answers : List (ℕ × Answer))
         → IsSafeTransaction t → t.phase ≡ Asking asker op answers

@@ -49,7 +49,7 @@ abbrev pub in_session : ℤ → Transaction → Given → Deed
 in_session number t given =
     record { session = record { number = number; doing = Begun t }; given = given }
 
--- the router behind an event, and what is given out
+-- the router after an event, and what is given out
 pub record Move : Type 0 where
   pub state : RouterState
   pub given : Given

@@ -23,7 +23,7 @@ pub struct Given {
     pub replies: Items<Sent>,
 }
 
-/// A session behind an event, and what is given out.
+/// A session after an event, and what is given out.
 #[derive(Drop)]
 pub struct Deed {
     pub session: Session,

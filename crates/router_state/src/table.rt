@@ -20,7 +20,7 @@ fn place_of(lsid: &Lsid, sessions: &[(Lsid, Session)]) -> Option<usize>
     sessions.iter().position(|entry| same_lsid(lsid, &entry.0))
 }
 
-/// Puts the session in place of what stood under its name, or behind the others. For want of memory
+/// Puts the session in place of what stood under its name, or after the others. Out of memory,
 /// the table is as it was.
 pub fn put_entry(table: &mut Table, lsid: Lsid, session: Session) -> Result<(), AllocError>
     ensures ok { OnOk result (table.new ≡ with_entry lsid session table.old) }

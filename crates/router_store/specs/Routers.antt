@@ -12,7 +12,7 @@ pub record RouterOn (L : Type 0) : Type 0 where
   pub records : List Rec
   pub log : L
 
--- a router that starts behind these records, at the next boot, which is recorded
+-- a router that starts after these records, at the next boot, which is recorded
 pub record Boots (number : ℕ) (chunks : Map) (old : List Rec) (router : RouterState)
     (new : List Rec) : Type 0 where
   pub follow : first_refused old ≡ None
@@ -20,7 +20,7 @@ pub record Boots (number : ℕ) (chunks : Map) (old : List Rec) (router : Router
   pub fresh : router ≡ fresh_router number (next_boot old) chunks
   pub records : new ≡ old ++ rec.Boot (next_boot old) ∷ []
 
--- a router that starts behind the records of a file, where its disk tells
+-- a router that starts after the records of a file, where its disk tells
 pub record StartsFrom (number : ℕ) (chunks : Map) (told : Type 0) (file : List ℕ)
     (router : RouterState) (new : List Rec) : Type 0 where
   pub recs : List Rec

@@ -9,7 +9,7 @@ use outside_core::DiskErr;
 use record_store::{NodeErr, Payload, RecordLog};
 use std::alloc::Global;
 
-/// The last boot but one: behind it no other can follow.
+/// The last boot but one: after it no other can follow.
 const LAST_BOOT: u32 = 4_294_967_294;
 
 /// The boot that a record is, where it can follow the last.

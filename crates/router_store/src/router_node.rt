@@ -41,7 +41,7 @@ impl<L: RecordLog> Model for RouterNode<L> {
 }
 
 impl<L: RecordLog> RouterNode<L> {
-    /// Starts the router of this number behind the records of a log, to which the record of the
+    /// Starts the router of this number after the records of a log, to which the record of the
     /// next boot is appended. It sends by the map. A refusal gives the log back.
     pub fn over(
         alloc: Global,

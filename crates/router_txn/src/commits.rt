@@ -221,7 +221,7 @@ fn is_known_aborted(
     gives(alloc, number, t, told)
 }
 
-/// A request to commit a transaction that was begun here, behind its refusals: a known end is told
+/// A request to commit a transaction that was begun here, after its refusals: a known end is told
 /// again; an unanswered commit is listened to; and a shard whose answer wasn't kept is asked again.
 pub fn commit_asked(
     alloc: Global,

@@ -180,7 +180,7 @@ pub fn seeks_by(
     }
 }
 
-/// What is known as committed behind an outcome.
+/// What is known as committed after an outcome.
 fn known_by(alloc: Global, tag: Tag, known: &Tags, told: &Told) -> Result<Tags, AllocError>
     ensures { IfOk result (λ k. k ≡ known_by tag known.now told.now) }
 {

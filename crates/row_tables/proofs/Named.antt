@@ -1,5 +1,5 @@
 -- The rows of a namespace in a list of tables, where one table is changed or a new one is put
--- behind them.
+-- after them.
 use Rattle.std.proofs.Common.{◌≡◌, ◌<◌, ◌≤◌, ℕ, zero, suc, Bool, true, false, cond, List, [], ◌∷◌}
 use Rattle.std.proofs.Common.{◌++◌, None, Some, position, length, get_or, set, refl, ap, sym, ◌∙◌}
 use Rattle.std.proofs.Common.{arith}
@@ -119,7 +119,7 @@ rows_set f ns other (table ∷ tables) (suc at) default first =
     (bytes_eq other ns) (differs ns other table.0 (first.before 0 (omega arith)))
     (rows_set f ns other tables at default (behind ns table tables at default first))
 
--- or it gets one, behind the others
+-- or it gets one, after the others
 pub rows_behind : (f : List Row → List Row) (ns other : List ℕ) (tables : List Named)
     → IsNowhere ns tables
     → rows_in other (tables ++ (ns, f []) ∷ []) ≡ changed f ns other (rows_in other tables)

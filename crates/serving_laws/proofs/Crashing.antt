@@ -1,4 +1,4 @@
--- What holds of a shard's part where the machine stopped in a step, or behind it.
+-- What holds of a shard's part where the machine stopped in a step, or after it.
 use Rattle.std.proofs.Common.{◌≡◌, ◌⊎◌, inl, inr, ◌≤◌, ◌++◌, ℕ, List, [], ◌∷◌, Some, None, refl, ap}
 use Rattle.std.proofs.Common.{subst, ◌∙◌, sym, arith}
 use Rattle.txn_types.specs.declared.event.NodeAnswer.{NodeAnswer}

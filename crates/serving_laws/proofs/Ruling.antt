@@ -1,4 +1,4 @@
--- What holds of a shard's part behind the rule of each message.
+-- What holds of a shard's part after the rule of each message.
 use Rattle.std.proofs.Common.{◌≡◌, ◌⊎◌, inl, inr, ◌≤◌, ℕ, ℤ, List, [], ◌∷◌, All, Option, Some, None}
 use Rattle.std.proofs.Common.{Result, Ok, Err, refl, sym, nat_eq}
 use Rattle.std.proofs.lemmas.List.Elements.{All-nil, All-append, All-weaker}

@@ -1,4 +1,4 @@
--- What holds of a shard's part behind a start from its records.
+-- What holds of a shard's part after a start from its records.
 use Rattle.std.proofs.Common.{◌≡◌, ◌≤◌, ◌+◌, ◌++◌, ℕ, Bool, true, false, cond, List, [], ◌∷◌, find}
 use Rattle.std.proofs.Common.{All, Option, Some, None, IsSomeAnd, refl, ap, subst, ◌∙◌, sym}
 use Rattle.std.proofs.lemmas.List.Elements.{All-head, All-tail}

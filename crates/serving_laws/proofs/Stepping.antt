@@ -1,4 +1,4 @@
--- What holds of a shard's part behind its whole step.
+-- What holds of a shard's part after its whole step.
 use Rattle.std.proofs.Common.{true, false, if◌then◌else◌, ◌≡◌, inl, inr, ◌≤◌, ◌++◌, max, ℕ, Bool}
 use Rattle.std.proofs.Common.{List, [], ◌∷◌, All, Option, Some, None, option_map, option_and_then}
 use Rattle.std.proofs.Common.{unwrap_or, is_some, refl, ap, subst, ◌∙◌, sym, arith}
@@ -242,7 +242,7 @@ grows_none p q none (what.Gone conn) served out = refl
 grows_none p q none what.Resend served out = refl
 grows_none p q none what.Moment served out = refl
 
--- Nothing begins where a live transaction is ended for want of memory.
+-- Nothing begins where a live transaction is ended out of memory.
 
 taken_less : (lsid other : Lsid) (live : List (Lsid × Open)) (o : Open) (b : Bool)
     → Rises lsid_cmp live → same_lsid other lsid ≡ b
@@ -357,7 +357,7 @@ module _ (s : ShardState) (entries : List Entry) (served : List Served) (opens m
     deliver_step comes = rule_step (ruled (met t e) e.from e.msg) (rule_serves (met t e) mid entries
         served mine e.from e.msg (met_last t e).1 comes)
 
-    -- want of memory
+    -- out of memory
     memory_step : (w : Wanting) → InTold served w.letter → StepServes opens s (what.Deliver e)
         entries served (stepped (ceiling_of t e) (told_memory (met t e) w))
     memory_step w silent =

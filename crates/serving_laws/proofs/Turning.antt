@@ -1,4 +1,4 @@
--- A part behind a statement that is new only where its session lets it begin.
+-- A part after a statement that is new only where its session lets it begin.
 use Rattle.std.proofs.Common.{◌≡◌, inl, ◌<ℤ◌, ◌≤◌, ◌||◌, ◌&&◌, ℕ, Bool, true, false, not, List}
 use Rattle.std.proofs.Common.{Option, Some, None, refl, ap, subst, ◌∙◌, sym, arith, int_lt}
 use Rattle.std.proofs.Common.{if◌then◌else◌}

@@ -1,4 +1,4 @@
--- What a start finds behind a step at whose end, or in which, the machine stopped.
+-- What a start finds after a step at whose end, or in which, the machine stopped.
 use Rattle.std.specs.Prelude.{◌⊎◌, List, [], ◌∷◌}
 use Rattle.std.proofs.Common.{inl, inr}
 use Rattle.txn_types.specs.declared.event.NodeAnswer.{NodeAnswer}
@@ -24,12 +24,12 @@ pub record Serving (s : ShardState) : Type 0 where
 abbrev pub ServesOn : (s : ShardState) → Serving s → ShardState → Type 0
 ServesOn s h new = IsServing new.part (prepared_ones h.opens) new.clock.last h.entries h.served
 
--- the last append of a step brings what is behind the step
+-- the last append of a step brings what is after the step
 abbrev pub AtLast : List (List Rec) → Type 0 → Type 0 → Type 0
 AtLast [] before behind = behind
 AtLast (next ∷ more) before behind = before
 
--- as behind the step where all its appends were made, or where the last failed and is found whole;
+-- as after the step where all its appends were made, or where the last failed and is found whole;
 -- and else as before it
 abbrev pub ServesAgain : (old : NodeState) (o : CoreStep) (a : NodeAnswer) (new : NodeState)
     (recs : List Rec) → Appended old o a new ⊎ Failed old o a new → IsLeft new recs

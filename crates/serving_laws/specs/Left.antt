@@ -38,7 +38,7 @@ abbrev pub NoneButDecided : Option Rec → Type 0
 NoneButDecided None = Unit {0}
 NoneButDecided (Some r) = AppliesOnly r
 
--- behind a message: a commit's record adds its entry, by its time; a prepare's stands prepared; a
+-- after a message: a commit's record adds its entry, by its time; a prepare's stands prepared; a
 -- decision is applied to its transaction; and else the commits stay, and what is prepared
 abbrev pub LeftBy : Opens → Part → ℕ → ℕ → List Entry → List Served → Msg → Option Rec → Type 0
 LeftBy old q last later entries told (msg.Commit m) recorded =
@@ -60,7 +60,7 @@ Left old q last later entries told other recorded = Holds old q later entries to
 abbrev pub Enters : Part → Part → Type 0
 Enters p entered = (entered ≡ p) ⊎ ((wall : ℕ) × (entered ≡ expire p wall))
 
--- behind a step: what was served, with at most one statement more; the clock when its message had
+-- after a step: what was served, with at most one statement more; the clock when its message had
 -- come; and what is left
 pub record StepServes (old : Opens) (s : ShardState) (w : Happening) (entries : List Entry)
     (served : List Served) (o : CoreStep) : Type 0 where

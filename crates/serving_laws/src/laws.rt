@@ -41,8 +41,8 @@ pub fn a_start_is_right()
         → IsServing n.core.part none_open n.core.clock.last [] [] }
 {}
 
-/// Where the machine stops in a step of a node that runs, or behind it, what it leaves is started
-/// with what holds of the shard behind the step, where all appends were made or the last one is
+/// Where the machine stops in a step of a node that runs, or after it, what it leaves is started
+/// with what holds of the shard after the step, where all appends were made or the last one is
 /// found whole, and else with what held before it.
 pub fn a_crash_is_right()
     ensures { (old : NodeState) (e : NodeEvent) (a : NodeAnswer)

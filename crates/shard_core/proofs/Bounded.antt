@@ -332,7 +332,7 @@ pub bounded_expire : (p : Part) (wall : ℕ) → IsBounded p → IsBounded (expi
 unfolding expire
 bounded_expire p wall b = expired_all wall p.live p b
 
--- what a session has behind an end it had before
+-- what a session has after an end it had before
 
 same_or_gone : (lsid other : Lsid) (p q : Part) (o : Open) (test : Bool)
     → same_lsid other lsid ≡ test → IsBounded p → q.live ≡ taken_out lsid_cmp lsid p.live

@@ -318,7 +318,7 @@ scarce_step s (what.Deliver e) b = told_step s e (wanting (met s e) e.from e.msg
 scarce_step s what.Resend b = tt
 scarce_step s what.Moment b = tt
 
--- what is there behind the expiry was there before it
+-- what is there after the expiry was there before it
 
 wrote_before : (p : Part) (wall : ℕ) (lsid : Lsid) (r : Rec) → IsBounded p
     → Wrote (expire p wall) lsid r → body_bytes r ≡ writes_bytes (own_of (open_of p lsid))

@@ -54,7 +54,7 @@ told_where a w true false t c = refl
 told_where a w true true t c = cc
 told_where a w false coordinated t c = cc
 
--- the want of memory is told
+-- out of memory is told
 by_memory : (a : ShardState) (e : Envelope) (w : Wanting) (new : ShardState) (g : Given)
     → wanting a e.from e.msg ≡ Some w
     → may_tell_memory a.part w.lsid w.number w.tag ≡ true → coordinates a w.tag ≡ false
@@ -67,7 +67,7 @@ by_memory a e w new g is told other h =
       h,
     )
 
--- what is coordinated here, behind the arrival
+-- what is coordinated here, after the arrival
 pub still_other : (s : ShardState) (wall : ℕ) (e : Envelope) (a : ShardState) (tag : Tag)
     → a ≡ arrived s wall e → coordinates s tag ≡ false → coordinates a tag ≡ false
 still_other s wall e a tag is h = rw (is, arrived_coord s wall e) h

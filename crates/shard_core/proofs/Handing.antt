@@ -106,7 +106,7 @@ delivered_steps s wall e ceiling new g out step runs is (inr h) o t =
           ∙ sym (handed_out r ceiling new g out step h.2 o t),
     )
 
--- want of memory, with nothing changed
+-- out of memory, with nothing changed
 pub short_steps : (s : ShardState) (e : NodeEvent) (new : ShardState) (out : Outbox)
     → s.stopped ≡ None → new ≡ s → Steps s e (said new out (Err StepErr.Memory))
 short_steps s e new out runs same = (

@@ -1,4 +1,4 @@
--- A clock behind a ceiling that a delivered message asks for.
+-- A clock after a ceiling that a delivered message asks for.
 use Rattle.std.proofs.Common.{◌≡◌, ◌⊎◌, inl, inr, ◌<◌, ◌≤◌, ◌^◌, ℕ, max, Bool, true, false, refl}
 use Rattle.std.proofs.Common.{arith, nat_lt, nat_eq}
 use Rattle.txn_types.specs.Clock.{Clock, next_time, reach, raised, ceiling_for, last_time}
@@ -6,7 +6,7 @@ use Rattle.shard_core.specs.Laws.{IsClock}
 use Rattle.shard_core.proofs.Times.{within, tick_within, reach_ends}
 use Rattle.shard_core.proofs.Stepping.{covers, not_last}
 
--- the message's times are within the ceiling, and so is a tick behind them
+-- the message's times are within the ceiling, and so is a tick after them
 pub record Meets (clock : Clock) (wall time read_at ceiling : ℕ) : Type 0 where
   pub first : time ≤ ceiling
   pub second : read_at ≤ ceiling

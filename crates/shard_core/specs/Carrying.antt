@@ -1,4 +1,4 @@
--- What a step's record carries behind its front, which is known before the step: the writes that
+-- What a step's record carries after its front, which is known before the step: the writes that
 -- the transaction has, or the participants that the message names.
 use Rattle.std.specs.Prelude.{◌≡◌, ◌⊎◌, ◌≤◌, ℕ, List, [], ◌∷◌, Option, IfSome}
 use Rattle.txn_types.specs.Order.{lsid_cmp}
@@ -27,7 +27,7 @@ pub record IsBounded (p : Part) : Type 0 where
   pub rises : Rises lsid_cmp p.live
   pub within : AreWithin p.live
 
--- what stands behind the front of a record that the delivery of a message makes, where it makes one
+-- what stands after the front of a record that the delivery of a message makes, where it makes one
 -- that carries anything
 abbrev pub carried_by : Part → Msg → List ℕ
 carried_by p (msg.Commit m) = writes_bytes (own_of (open_of p m.lsid))

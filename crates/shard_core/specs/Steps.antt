@@ -28,7 +28,7 @@ abbrev pub refused : ShardState → StepErr → CoreStep
 refused s Memory = stays s answer.Memory
 refused s Stopped = stays s answer.Stopped
 
--- the core's step as the call says it: this core behind it, this outbox, and this result
+-- the core's step as the call says it: this core after it, this outbox, and this result
 abbrev pub said : ShardState → Outbox → Result Step StepErr → CoreStep
 said s out (Ok step) =
     record { core = s; ceiling = step.ceiling; rec = step.then; answer = answer_by out step.held }

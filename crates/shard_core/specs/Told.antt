@@ -26,16 +26,16 @@ given_by r = record {
 abbrev pub Gives : Ruled → ShardState → Given → Type 0
 Gives r new g = (new ≡ r.core) × (g ≡ given_by r)
 
--- a live transaction of this session and tag is ended for want of memory, which this message tells
+-- a live transaction of this session and tag is ended out of memory, which this message tells
 abbrev pub told_by : ShardState → Lsid → Tag → Letter → Ruled
 told_by s lsid tag letter = sends (with_part s (ended_for_memory s.part lsid tag)) (letter ∷ [])
 
--- the want of memory is told, where it may be
+-- out of memory is told, where it may be
 abbrev pub Tells : ShardState → Envelope → ShardState → Given → Type 0
 Tells s e new g = (r : Ruled) × (option_and_then (told_if s) (wanting s e.from e.msg) ≡ Some r)
     × Gives r new g
 
--- what comes of a message at a shard that has its times: its rule, or the want of memory is told in
+-- what comes of a message at a shard that has its times: its rule, or out of memory is told in
 -- its place
 abbrev pub ComesAt : ShardState → Envelope → ShardState → Given → Type 0
 ComesAt s e new g = Gives (ruled s e.from e.msg) new g ⊎ Tells s e new g

@@ -19,7 +19,7 @@ use txn_types::{
 };
 
 impl Shard {
-    /// A statement of a transaction that is coordinated here. At want of memory the shard is as it
+    /// A statement of a transaction that is coordinated here. Out of memory, the shard is as it
     /// was.
     fn deliver_own_statement(
         &mut self,
@@ -81,7 +81,7 @@ impl Shard {
         }
     }
 
-    /// A commit of a transaction that is coordinated here. At want of memory the shard is as it
+    /// A commit of a transaction that is coordinated here. Out of memory, the shard is as it
     /// was.
     fn deliver_own_commit(
         &mut self,
@@ -143,7 +143,7 @@ impl Shard {
         }
     }
 
-    /// A prepare of a transaction that is coordinated here. At want of memory the shard is as it
+    /// A prepare of a transaction that is coordinated here. Out of memory, the shard is as it
     /// was.
     fn deliver_own_prepare(
         &mut self,
@@ -347,7 +347,7 @@ impl Shard {
         Given::quiet(self.alloc)
     }
 
-    /// What comes of a message that is delivered at this wall. At want of memory that isn't told
+    /// What comes of a message that is delivered at this wall. Out of memory, that isn't told
     /// the shard is as it was.
     pub(crate) fn deliver(&mut self, wall: u32, envelope: &Envelope) -> Result<Given, PartErr>
         ensures ok { IfOk result (λ g. Comes self.old wall envelope.now self.new g) }

@@ -20,7 +20,7 @@ pub trait Journalled: Machine<Event = NodeEvent, Answer = NodeAnswer> {
     fn shard(&self) -> &Shard
         ensures { result.now ≡ (state self.now).core };
 
-    /// The records of the journal, in their order; behind an append that failed, those before it.
+    /// The records of the journal, in their order; after an append that failed, those before it.
     fn records(&self) -> &[Rec]
         ensures { result.now ≡ (state self.now).records };
 

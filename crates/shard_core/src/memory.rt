@@ -33,7 +33,7 @@ impl Shard {
         }
     }
 
-    /// The want of memory is told by this message, and a live transaction of the tag is ended.
+    /// out of memory is told by this message, and a live transaction of the tag is ended.
     fn tell(&mut self, slip: Slip, lsid: &Lsid, tag: &Tag, to: NodeId, msg: Msg) -> Given
         ensures { Gives (told_by self.old lsid.now tag.now (to, msg)) self.new result }
     {

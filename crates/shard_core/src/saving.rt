@@ -1,5 +1,5 @@
 //! What is kept of a shard before a message comes, so that nothing has changed where memory is
-//! wanted behind it.
+//! wanted after it.
 ghost use Rattle.std.specs.Prelude.{◌≡◌, max, IfOk, MatchOption};
 ghost use Rattle.participant.specs.Expiry.{expire};
 ghost use Rattle.shard_core.specs.Saved.{restored, IsSaved};

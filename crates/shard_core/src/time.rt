@@ -75,7 +75,7 @@ fn advance(clock: &mut HybridClock, to: Ts)
     }
 }
 
-/// A clock with this ceiling of its own, behind the one that a message which names these times asks
+/// A clock with this ceiling of its own, after the one that a message which names these times asks
 /// for.
 fn meet_times(
     clock: &mut HybridClock,
@@ -143,7 +143,7 @@ impl Shard {
         self.meet(envelope);
     }
 
-    /// The clock behind the message's times.
+    /// The clock after the message's times.
     pub(crate) fn time_at(&self, wall: u32, envelope: &Envelope) -> Ts
         ensures { result ≡ (arrived self.now wall envelope.now).clock.last }
     {

@@ -1,4 +1,4 @@
--- The state behind a record that can follow is of one piece.
+-- The state after a record that can follow is of one piece.
 use Rattle.std.proofs.Common.{◌≡◌, ◌+◌, ℕ, ℤ, Bool, true, false, not, List, [], ◌∷◌, ◌++◌, filter}
 use Rattle.std.proofs.Common.{map, Option, Some, None, IfSome, IsSomeAnd, if◌then◌else◌, refl, ap}
 use Rattle.std.proofs.Common.{sym, subst, ◌∙◌}

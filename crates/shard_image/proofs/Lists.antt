@@ -114,7 +114,7 @@ module _ {K A B : Type 0} (cmp : K → K → Ordering) (total : IsTotalOrder cmp
   equal_case key b row None rows is h = sym (in_front key b rows h)
   equal_case key b row (Some c) rows is h = rw (put, is) refl
 
-  -- behind what was kept, or behind nothing
+  -- after what was kept, or after nothing
   greater_case : (key : K) (b : B) (row : K × A) (o : Option B) (rows : List (K × B))
       → cmp key row.0 ≡ Greater
       → cons_option (option_map (λ b. (row.0, b)) o) (put cmp key b rows)

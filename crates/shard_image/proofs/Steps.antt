@@ -75,7 +75,7 @@ pub time_elsewhere : (t : Table) (lsid other : Lsid) (s : Session) → same_lsid
 time_elsewhere t lsid other s apart = ap (option_and_then (λ (s : Session). prepared_at s.state))
     (entry_elsewhere other lsid apart s t.entries)
 
--- what a session's transaction has, behind one of this session
+-- what a session's transaction has, after one of this session
 pub has_case : (pending pending' : List Pending) (t : Table) (lsid other : Lsid) (new s : Session)
     (b : Bool) → same_lsid other lsid ≡ b → session_of (with_session t lsid new) other ≡ Some s
     → ((lsid : Lsid) (s : Session) → session_of t lsid ≡ Some s → HasIts pending lsid s.tag s.state)

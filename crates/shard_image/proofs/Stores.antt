@@ -118,7 +118,7 @@ module _ (tag : Tag) (read_at : ℕ) (pending : List Pending) (sessions : Table)
   writes_keep (write ∷ writes) store r is all = writes_keep writes (with_write tag store write)
       (rises_write tag store write r) is.1 (write_keeps store write r is.0 all)
 
--- what holds of each key behind a change of all
+-- what holds of each key after a change of all
 pub each_mapped : (P Q : List Version → Type 0) (h : List Version → List Version) (store : Versions)
     → ((versions : List Version) → P versions → Q (h versions))
     → AllByRecursion (λ (row : Place × List Version). P row.1) store
@@ -416,7 +416,7 @@ kept_above g low [] h = tt
 kept_above g low (row ∷ store) h =
     kept_above_case low row.0 (g row.1) (kept g store) h.0 (kept_above g low store h.1)
 
--- the newest commit of a key behind the transaction's
+-- the newest commit of a key after the transaction's
 pub record IsStamped (tag : Tag) (at : ℕ) (versions : List Version) : Type 0 where
   pub own : (v : Version) → of_tag tag versions ≡ Some v
       → newest_of (map (restamped tag (At at)) versions) ≡ Some at

@@ -132,7 +132,7 @@ fn time_of(decision: &Decision) -> Option<Ts>
     }
 }
 
-/// How a prepared transaction stands behind a decision.
+/// How a prepared transaction stands after a decision.
 fn behind(decision: &Decision) -> SessionState
     ensures { result ≡ state_behind decision.now }
 {
@@ -148,7 +148,7 @@ fn behind(decision: &Decision) -> SessionState
     }
 }
 
-/// The session behind a decision.
+/// The session after a decision.
 fn session_behind(d: &Decided) -> Session
     ensures { result
         ≡ record { number = d.now.number; tag = d.now.tag; state = state_behind d.now.decision } }

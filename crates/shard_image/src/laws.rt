@@ -5,7 +5,7 @@ ghost use Rattle.journal_rec.specs.declared.record.Rec.{Rec};
 ghost use Rattle.shard_image.specs.Image.{Image, with_record, image_of, ledger_of, can_follow_image};
 ghost use Rattle.shard_image.specs.Sound.{IsImage, IsWritten, AreWritten};
 
-/// What is counted of a state behind a record that can follow is what is counted behind it of the
+/// What is counted of a state after a record that can follow is what is counted after it of the
 /// records, and the state stays of one piece; so of a list of records each of which can follow
 /// those before it.
 pub fn a_record_is_counted()

@@ -116,7 +116,7 @@ among shard_of p [] = p
 among shard_of p (s ∷ shards) =
     among shard_of (λ place. cond (p place) true (stands_at shard_of s place)) shards
 
--- the parts of rows at these shards, one behind the other
+-- the parts of rows at these shards, one after the other
 abbrev parts : (Place → ℕ) → List ℕ → Placed → Placed
 parts shard_of [] rows = []
 parts shard_of (s ∷ shards) rows = at (stands_at shard_of s) rows ++ parts shard_of shards rows

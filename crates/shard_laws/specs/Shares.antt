@@ -39,7 +39,7 @@ AllAmong shard_of shards [] = Unit {0}
 AllAmong shard_of shards (write ∷ writes) =
     (list_any (nat_eq (shard_of (place_of write))) shards ≡ true) × AllAmong shard_of shards writes
 
--- what each shard has of a transaction's writes, the last to each document, one shard behind the
+-- what each shard has of a transaction's writes, the last to each document, one shard after the
 -- other
 abbrev pub shares : (Place → ℕ) → List ℕ → List Write → List Write
 shares shard_of shards writes =

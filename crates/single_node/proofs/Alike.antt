@@ -97,7 +97,7 @@ stands_too server s t same at =
 pub alike_all : (a b c : State) → Alike a b → Alike b c → Alike a c
 alike_all a b c ab bc = bc ∙ ap (λ (x : State). with_answered c.answered x) ab
 
--- a good state stays good behind a message
+-- a good state stays good after a message
 behind_good_by : (s : State) (r : Result Request Unserved) → Good s → Good (behind_asked s r)
 behind_good_by s (Ok request) g = served_good s request g
 behind_good_by s (Err e) g = g

@@ -1,4 +1,4 @@
--- What holds of the state behind any requests.
+-- What holds of the state after any requests.
 use Rattle.std.proofs.Common.{◌≡◌, ◌<◌, ◌≤◌, [], ◌∷◌, All, AllPairs}
 use Rattle.std.specs.Bool.{IsTrue}
 use Rattle.std.specs.Result.{IsOk}

@@ -1,4 +1,4 @@
--- The state stays good behind each request.
+-- The state stays good after each request.
 use Rattle.std.proofs.Common.{◌≡◌, ◌≢◌, ◌≤◌, ◌+◌, Bool, List, [], ◌∷◌, ◌++◌, true, false, Ok, Err}
 use Rattle.std.proofs.Common.{All, refl, sym, ap, subst, ◌∙◌, arith, if◌then◌else◌}
 use Rattle.std.specs.Bool.{IsTrue}
@@ -27,7 +27,7 @@ use Rattle.single_node.proofs.Next.{means_stay, Next, commit_kept, answers_kept}
 use Rattle.single_node.proofs.Once.{WritesOnce, writes_once}
 use Rattle.single_node.proofs.Tags.{own_tag, alone}
 
--- behind an answered statement of this meaning, by whether it commits
+-- after an answered statement of this meaning, by whether it commits
 abbrev answered_by : State → Op → Meaning → Bool → State
 answered_by s op m commits =
     record {

@@ -1,4 +1,4 @@
--- The rows that a server keeps, behind one more commit.
+-- The rows that a server keeps, after one more commit.
 use Rattle.std.proofs.Common.{◌≡◌, ◌≤◌, ℕ, Bool, cond, List, [], ◌∷◌, ◌++◌, All, sym, ap, subst}
 use Rattle.std.proofs.Common.{◌∙◌, arith}
 use Rattle.std.proofs.lemmas.Bool.{le-leb}
@@ -22,7 +22,7 @@ later_from rows (x ∷ entries) e last ns past above =
     ∙ ap (λ (b : Bool). under ns (view_from (cond b (under ns rows x.writes) rows) entries last ns)
     e.writes) (sym (le-leb x.at last seen))
 
--- the view behind a commit that is above all others is the view before it, under what it wrote
+-- the view after a commit that is above all others is the view before it, under what it wrote
 pub view_behind : (entries : List Entry) (e : Entry) (last : ℕ) (ns : List ℕ)
     → All (λ x. x.at ≤ last) entries → last ≤ e.at
     → view (entries ++ e ∷ []) e.at ns ≡ under ns (view entries last ns) e.writes

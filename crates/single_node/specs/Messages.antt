@@ -59,7 +59,7 @@ from_command (refused.Parse (parsing.UnknownField name)) = Told (refusal.Unknown
 from_command (refused.Parse parsing.Memory) = Memory
 from_command refused.Memory = Memory
 
--- want of memory, which no definition answers
+-- out of memory, which no definition answers
 abbrev pub is_memory : Unserved → Bool
 is_memory Memory = true
 is_memory other = false
@@ -120,7 +120,7 @@ told bytes reply time = if wants_reply bytes
     then sent (message (reply_frame reply (request_id bytes) (is_legacy bytes) time))
     else answer.Silent
 
--- behind what was asked
+-- after what was asked
 abbrev pub behind_asked : State → Result Request Unserved → State
 behind_asked s (Ok request) = served s request
 behind_asked s (Err error) = s
@@ -133,7 +133,7 @@ answer_asked conn s bytes (Err (Told why)) = told bytes (Refused why) s.last
 answer_asked conn s bytes (Err (Closed number)) = answer.Closed number
 answer_asked conn s bytes (Err Memory) = answer.Silent
 
--- behind a message, and its answer
+-- after a message, and its answer
 abbrev pub behind : State → List ℕ → State
 behind s bytes = behind_asked s (asks bytes)
 

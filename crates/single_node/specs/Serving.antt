@@ -61,7 +61,7 @@ commit_of s m = record {
   writes = writes_of m;
 }
 
--- behind an answered statement of this meaning: it is among the commits exactly where it writes
+-- after an answered statement of this meaning: it is among the commits exactly where it writes
 -- something
 abbrev pub with_answer : State → Op → Meaning → State
 with_answer s op m =
@@ -76,7 +76,7 @@ with_answer s op m =
 abbrev pub has_serial : State → Bool
 has_serial s = nat_lt s.serial (2 ^ 63 - 1)
 
--- behind a request; without a serial a statement is refused unseen
+-- after a request; without a serial a statement is refused unseen
 abbrev pub served : State → Request → State
 served s (Ping more time) = s
 served s (Hello old_name more time) = s
@@ -86,7 +86,7 @@ served s (Commit txn token more time) = s
 served s (Abort txn more time) = s
 served s (EndSessions ids more time) = s
 
--- behind requests, one after the other
+-- after requests, one after the other
 abbrev pub served_all : State → List Request → State
 served_all s [] = s
 served_all s (request ∷ requests) = served_all (served s request) requests

@@ -4,7 +4,7 @@ ghost use Rattle.client_cmd.specs.declared.request.Request.{Request};
 ghost use Rattle.single_node.specs.Serving.{first_state, served_all};
 ghost use Rattle.single_node.specs.Right.{AnswersRight};
 
-/// Behind any requests, the answers are those of one list of commits.
+/// After any requests, the answers are those of one list of commits.
 pub fn answers_are_right()
     ensures { (requests : List Request) → AnswersRight (served_all first_state requests) }
 {}

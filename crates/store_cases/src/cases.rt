@@ -3,7 +3,7 @@ use std::alloc::{AllocError, Global};
 
 /// A file of cases that is run: how many there were, the number of the line, and the store.
 ///
-/// A line is a comment, which begins with `#`, or `new`, behind which there is another store, or a
+/// A line is a comment, which begins with `#`, or `new`, after which there is another store, or a
 /// question and its answer, `QUESTION -> ANSWER`. Transactions and times are numbers, a namespace
 /// is a collection's name, an id is a number or a text, a value is a number:
 ///

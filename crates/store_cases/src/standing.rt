@@ -13,7 +13,7 @@ pub struct Standing {
     store: Store,
 }
 
-/// The words of a question; an empty one behind the last.
+/// The words of a question; an empty one after the last.
 #[derive(Clone, Copy)]
 struct Asked<'a> {
     words: &'a [&'a str],
@@ -32,7 +32,7 @@ impl<'a> Asked<'a> {
         tag_of(self.word(1))
     }
 
-    /// The time, which comes behind `at`.
+    /// The time, which comes after `at`.
     fn time(&self) -> Ts {
         time_of(self.word(3))
     }

@@ -4,7 +4,7 @@ use std::alloc::{AllocError, Global};
 use txn_types::NodeId;
 
 /// The file of lines. Each stands before ` => ` and what it asks, or the name of its first fault;
-/// behind a `#` stands a remark.
+/// after a `#` stands a remark.
 pub const FILE: &str = "lines.cases";
 
 fn node_text(alloc: Global, node: NodeId) -> Result<String, AllocError> {

@@ -52,7 +52,7 @@ use Rattle.told_laws.proofs.Booking.{CameOf, came_alone, Changes, book_step}
 use Rattle.told_laws.proofs.Taking.{waited_behind, count_behind, once_behind, none_wins}
 use Rattle.told_laws.proofs.Taking.{all_replies, told_merged}
 
--- The lists behind the Answer.
+-- The lists after the Answer.
 
 abbrev pub taken_by : ℕ → Answer → List Unanswered → List Unanswered
 taken_by n a us = map (with_answer n a) us
@@ -67,7 +67,7 @@ with_tag n a u = ap (λ (x : Unanswered). x.tag) (with_opened n a u)
 with_k : (n : ℕ) (a : Answer) (u : Unanswered) → (with_answer n a u).k ≡ u.k
 with_k n a u = ap (λ (x : Unanswered). x.k) (with_opened n a u)
 
--- a statement behind the Answer, and what it was before
+-- a statement after the Answer, and what it was before
 record Was (n : ℕ) (a : Answer) (us : List Unanswered) (v : Unanswered) : Type 0 where
   before : Unanswered
   there : Contains us before
@@ -278,7 +278,7 @@ not_asking : (p : Phase) (asker : Asker) (op : Op) (answers : List (ℕ × Answe
     → p ≡ Asking asker op answers → ⊥
 not_asking p asker op answers over e = subst IsOver e over
 
--- The session's transaction, behind the Answer.
+-- The session's transaction, after the Answer.
 
 module _ (n : ℕ) (a : Answer) (begun us : List Unanswered) (told : List Answered)
     (h : ListsStand begun us told) where

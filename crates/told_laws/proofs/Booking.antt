@@ -24,7 +24,7 @@ use Rattle.told_laws.proofs.Standing.{DoingStands, SameTag, RouterStands, AreApa
 use Rattle.told_laws.proofs.Standing.{ListsStand, BookStands, txn_on, quiet_stands, own_on}
 use Rattle.told_laws.proofs.Standing.{drawn_on}
 
--- Each transaction that is begun behind a step was begun before it.
+-- Each transaction that is begun after a step was begun before it.
 
 pub record CameOf (r : RouterState) (lsid : Lsid) (tag : Tag) : Type 0 where
   pub session : Session

@@ -48,7 +48,7 @@ use Rattle.told_laws.proofs.Quiet.{IsSettled, QuietDoing, doing_self, doing_then
 use Rattle.told_laws.proofs.Quiet.{commit_asked_quiet, client_aborts_quiet, session_quiet}
 use Rattle.told_laws.proofs.Quiet.{seeks_quiet}
 
--- what is there behind an event goes on from what stood there, or looks for a decision alone
+-- what is there after an event goes on from what stood there, or looks for a decision alone
 abbrev pub QuietFrom : Option Session → Doing → Type 0
 QuietFrom old (Sought seeking known) = Unit {0}
 QuietFrom None (Begun v) = ⊥

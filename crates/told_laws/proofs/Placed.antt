@@ -1,4 +1,4 @@
--- The places of statements, behind each run.
+-- The places of statements, after each run.
 use Rattle.std.proofs.Common.{◌≡◌, inl, inr, ◌<◌, List, sym, arith}
 use Rattle.std.specs.Prelude.{Contains, AllPairs}
 use Rattle.chunk_map.specs.Map.{Map}

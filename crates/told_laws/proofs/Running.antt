@@ -1,4 +1,4 @@
--- What stands of opened statements is kept by each event, and so stands behind each run.
+-- What stands of opened statements is kept by each event, and so stands after each run.
 use Rattle.std.proofs.Common.{◌≡◌, inl, inr, ◌&&◌, ℕ, Bool, true, false, All, List, [], ◌∷◌, ◌++◌}
 use Rattle.std.proofs.Common.{map, Option, Some, None, Result, Ok, Err, refl, sym, ap, ap₂, subst}
 use Rattle.std.proofs.Common.{◌∙◌, arith, if◌then◌else◌}
@@ -85,7 +85,7 @@ settle routers begun us told h =
     (sym (answered_none us unfinished))
     (subst (λ (all : List Answered). BookStands routers begun us all) (sym (append-nil told)) h))
 
--- What stands behind a step that opens these, before the complete ones are told apart.
+-- What stands after a step that opens these, before the complete ones are told apart.
 abbrev Behind : List RouterState → List Unanswered → List Unanswered → List Answered
     → List Unanswered → List Unanswered → Type 0
 Behind routers begun us told taken new = BookStands routers (begun ++ new)
@@ -343,7 +343,7 @@ memory_state : (r : RouterState) (e : NodeEvent) → (sp.router_step true r e).s
 unfolding sp.router_step
 memory_state r e = refl
 
--- What stands behind events: the ledger has the routers as they are.
+-- What stands after events: the ledger has the routers as they are.
 
 pub record Booked (l : Ledger) (begun : List Unanswered) (told : List Answered) (nodes : Nodes) :
     Type 0 where

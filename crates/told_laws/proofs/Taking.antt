@@ -26,7 +26,7 @@ use Rattle.answer_laws.proofs.Lists.{nat_is}
 use Rattle.told_laws.proofs.Lists.{same_nat}
 use Rattle.told_laws.proofs.Standing.{OnceIn, has_answer}
 
--- What is waited for, behind an answer.
+-- What is waited for, after an answer.
 
 and_false : (b : Bool) → (b && false) ≡ false
 and_false true = refl
@@ -162,7 +162,7 @@ behind_case : (b l h : Bool) → (not b && (l && not h)) ≡ (l && not (b || h))
 behind_case true l h = sym (and_false l)
 behind_case false l h = refl
 
--- the shards that are waited for, behind an answer of one of them
+-- the shards that are waited for, after an answer of one of them
 pub waited_behind : (x : ℕ) (a : Answer) (posts : List Post) (shards : List ℕ)
     (answers : List (ℕ × Answer))
     → ((shard : ℕ) → is_waited shard posts ≡ (list_any (nat_eq shard) shards && not

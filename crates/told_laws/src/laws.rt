@@ -19,7 +19,7 @@ ghost use Rattle.told_laws.specs.Places.{Rises, IsLater, HasReply};
 
 /// A transaction and a place in it stand for one statement that a router opened. The places of a
 /// transaction's statements rise, and a statement is opened only where each earlier one of its
-/// transaction has had a reply: none is opened behind a refusal. They are answered in their order,
+/// transaction has had a reply: none is opened after a refusal. They are answered in their order,
 /// each once.
 pub fn each_statement_has_its_place()
     ensures rises { (chunks : Map) (start : Nodes) (run : List Ran) (trace : List Nodes)

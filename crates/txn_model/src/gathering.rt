@@ -10,7 +10,7 @@ use txn_semantics::Entry;
 use txn_types::{Tag, Ts, Write, Writes};
 use write_sets::merged;
 
-/// What participants have prepared: what the first read at, and all their writes, one list behind
+/// What participants have prepared: what the first read at, and all their writes, one list after
 /// the other.
 #[derive(Drop)]
 pub struct Share {
@@ -18,7 +18,7 @@ pub struct Share {
     writes: Writes,
 }
 
-/// Puts a copy of a write behind others.
+/// Puts a copy of a write after others.
 fn put(alloc: Global, writes: &mut Writes, write: &Write) -> Result<(), AllocError>
     requires { HasOwnId write.now }
     ensures { OnOk result (writes.new ≡ writes.old ++ write.now ∷ []) }
@@ -27,7 +27,7 @@ fn put(alloc: Global, writes: &mut Writes, write: &Write) -> Result<(), AllocErr
     Ok(())
 }
 
-/// Puts copies of writes behind others.
+/// Puts copies of writes after others.
 fn put_all(alloc: Global, writes: &mut Writes, more: &[Write]) -> Result<(), AllocError>
     requires { AllHaveOwnIds more.now }
     ensures { OnOk result (writes.new ≡ writes.old ++ more.now) }

@@ -22,7 +22,7 @@ Found = List Document × Option Id
 abbrev pub with_doc : Document → Found → Found
 with_doc doc found = (doc ∷ found.0, found.1)
 
--- the longest front whose sizes sum to this room, and the id of the row behind it
+-- the longest front whose sizes sum to this room, and the id of the row after it
 abbrev pub cut_rows : DocumentRules → ℕ → List Row → Found
 cut_rows w room [] = ([], None)
 cut_rows w room (row ∷ rows) = if nat_le (w.size row.1) room

@@ -37,12 +37,12 @@ at here rows = keyed_at here rows
 abbrev pub holds_id : Id → List Row → Bool
 holds_id id rows = list_any (λ row. same_id id row.0) rows
 
--- the rows of a namespace behind a write; a write in another namespace leaves them
+-- the rows of a namespace after a write; a write in another namespace leaves them
 abbrev pub written : List ℕ → List Row → Write → List Row
 written ns rows (Put there id doc) = if bytes_eq ns there then put_row id doc rows else rows
 written ns rows (Delete there id) = if bytes_eq ns there then delete_row id rows else rows
 
--- the rows of a namespace behind writes, one after the other
+-- the rows of a namespace after writes, one after the other
 abbrev pub under : List ℕ → List Row → List Write → List Row
 under ns rows [] = rows
 under ns rows (write ∷ writes) = under ns (written ns rows write) writes

@@ -91,7 +91,7 @@ abbrev pub may_replace : Option Value → Option Value → Bool
 may_replace None old = true
 may_replace (Some own) old = is_same_value (Some own) old
 
--- the old `_id`, and behind it the new document's other fields in their order
+-- the old `_id`, and after it the new document's other fields in their order
 abbrev pub replaced : Document → Document → Result Document What
 replaced new doc =
     if may_replace (value_of id_name new) (value_of id_name doc)

@@ -1,4 +1,4 @@
--- What holds of all items, or of all writes, holds with one more behind them.
+-- What holds of all items, or of all writes, holds with one more after them.
 use Rattle.std.proofs.Common.{List, [], ◌∷◌, ◌++◌, IsSome}
 use Rattle.txn_types.specs.Ids.{id_in}
 use Rattle.txn_types.specs.Items.{AllHaveIds}

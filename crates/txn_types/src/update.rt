@@ -7,7 +7,7 @@ use std::alloc::{AllocError, Global};
 /// What is done to a field.
 #[derive(Clone, Copy, PartialEq, Eq)]
 pub enum UpdateKind {
-    /// It gets the value, at its place, or behind the others where it isn't there.
+    /// It gets the value, at its place, or after the others where it isn't there.
     Set,
     /// Every field of the name is taken out.
     Unset,

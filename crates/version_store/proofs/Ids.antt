@@ -1,4 +1,4 @@
--- Documents stand under their own ids: in a store behind writes, stamps and ends, and in what a
+-- Documents stand under their own ids: in a store after writes, stamps and ends, and in what a
 -- scan gives.
 use Rattle.std.proofs.Common.{◌≡◌, ◌&&◌, ℕ, Bool, true, false, cond, not, List, [], ◌∷◌, Option}
 use Rattle.std.proofs.Common.{Some, None, map, find, option_map, unwrap_or, is_some, Result, Ok}

@@ -190,7 +190,7 @@ module _ {K V : Type 0} (cmp : K → K → Ordering) (total : IsTotalOrder cmp)
   inserted key v (row ∷ rows) =
       inserted_case key v row rows _ (cmp key row.0) refl (inserted key v rows)
 
-  -- a key behind all is put last
+  -- a key after all is put last
   low_less : (low key : K) (v : V) (xs rest : List (K × V))
       → AllAbove cmp low (xs ++ (key, v) ∷ rest) → cmp low key ≡ Less
   low_less low key v [] rest h = h.0

@@ -3,7 +3,7 @@ use Rattle.std.proofs.Common.{◌≡◌, ℕ, zero, suc, Bool, true, false, cond
 use Rattle.std.proofs.Common.{None, filter, take, drop, remove, slice_get, refl, ap, ◌∙◌, sym}
 
 module _ {A : Type 0} (test : A → Bool) where
-  -- those before a place, and those behind it that pass
+  -- those before a place, and those after it that pass
   abbrev pub sifted : ℕ → List A → List A
   sifted i xs = take i xs ++ filter test (drop i xs)
 

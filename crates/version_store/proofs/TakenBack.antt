@@ -79,7 +79,7 @@ module _ {K V : Type 0} (cmp : K → K → Ordering) (total : IsTotalOrder cmp)
   put_same key v rows r there = sym (keyed.written cmp total exact key v v rows r there)
       ∙ keyed.set_same cmp key v rows there
 
-  -- what is found behind it
+  -- what is found after it
   found_put_case : (key : K) (v : V) (row : K × V) (rows : List (K × V)) (o : Ordering)
       → cmp key row.0 ≡ o → lookup (is_at (cmp key)) (put cmp key v rows) ≡ Some v
       → lookup (is_at (cmp key)) (put cmp key v (row ∷ rows)) ≡ Some v
@@ -267,7 +267,7 @@ pub back_last : (tag : Tag) (laid : List Laid) (last : Laid) (store : Versions) 
 back_last tag [] last store = refl
 back_last tag (one ∷ laid) last store = ap (taken_back tag one) (back_last tag laid last store)
 
--- behind a write of the transaction the places of its others are free still
+-- after a write of the transaction the places of its others are free still
 abbrev Free : Tag → Line → Type 0
 Free tag line = first (filter_map (other_writer_of tag) line) ≡ None
 

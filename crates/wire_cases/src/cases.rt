@@ -125,7 +125,7 @@ fn read_body(alloc: Global, bytes: &[u8]) -> Result<String, AllocError> {
     }
 }
 
-/// A kind, and the bytes behind it.
+/// A kind, and the bytes after it.
 fn kind_and_bytes(alloc: Global, text: &str) -> Result<Option<(i32, Vec<u8>)>, AllocError> {
     let Some((kind, digits)) = text.split_once(" ") else {
         return Ok(None);

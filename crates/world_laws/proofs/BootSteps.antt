@@ -397,7 +397,7 @@ happens B s e what.Resend own b c = record {
 }
 happens B s e what.Moment own b c = calm B s e c
 
--- want of memory
+-- out of memory
 
 abbrev WantsBoots : (ℕ → ℕ → Type 0) → Option Wanting → Type 0
 WantsBoots B w = IfSome w (λ w. LetterBoots B w.letter)

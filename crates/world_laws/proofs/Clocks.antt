@@ -33,7 +33,7 @@ use Rattle.world_laws.proofs.Steps.{step_does, stopped_rests}
 abbrev pub Any : Named → Type 0
 Any n = Unit {0}
 
--- the last ceiling behind one list of records and then another
+-- the last ceiling after one list of records and then another
 pub ceiling_on : (a b : List Rec) → last_ceiling (a ++ b) ≡ (with_records (ledger_of a) b).ceiling
 ceiling_on a b = ap (λ (l : Ledger). l.ceiling) (records_on no_records a b)
 
@@ -181,7 +181,7 @@ pub ceiling_of_image : (recs : List Rec) → (image_of recs).ceiling ≡ last_ce
 unfolding image_of
 ceiling_of_image recs = image_ceiling recs empty_image no_records refl
 
--- what has started is the node of its records behind the next boot
+-- what has started is the node of its records after the next boot
 started_by : (n : ℕ) (recs : List Rec) (faults : ℕ) (s other : NodeState) (test : Bool)
     → (if test then Some other else None) ≡ Some s → s ≡ other
 started_by n recs faults s other true e = grind arith
@@ -262,7 +262,7 @@ kept_above : (before behind kept last bound : ℕ) → (kept ≡ last) ⊎ (kept
 kept_above before behind kept last bound (inl e) a b h = grind arith
 kept_above before behind kept last bound (inr e) a b h = grind arith
 
--- behind a failed append: the ceiling with what is in hand is that of the core, and the ceiling
+-- after a failed append: the ceiling with what is in hand is that of the core, and the ceiling
 -- without isn't below what it was
 pub failed_ceilings : (old : NodeState) (room : Room) (e : NodeEvent) (a : NodeAnswer)
     (new : NodeState) → Failed old (core_step room old.core e) a new → IsRunning old

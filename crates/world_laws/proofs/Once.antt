@@ -1,4 +1,4 @@
--- A tag stands for one begin, behind each event.
+-- A tag stands for one begin, after each event.
 use Rattle.std.proofs.Common.{◌≡◌, ◌⊎◌, inl, inr, ◌<ℤ◌, ◌+◌, ◌<◌, ◌≤◌, ℕ, suc, ℤ, List, [], ◌∷◌}
 use Rattle.std.proofs.Common.{◌++◌, get_or, Option, Some, None, IfSome, refl, sym, ap, subst, ◌∙◌}
 use Rattle.std.proofs.Common.{arith}
@@ -241,7 +241,7 @@ same_list : (old new : Nodes) → new.routers ≡ old.routers → (number : ℕ)
     → slice_get new.routers number ≡ Some s → slice_get old.routers number ≡ Some s
 same_list old new is number s e = sym (ap (λ (l : List RouterState). slice_get l number) is) ∙ e
 
--- of the routers behind a change of one, that one and the others
+-- of the routers after a change of one, that one and the others
 pub record Apart (n number : ℕ) : Type 0 where
   pub apart : (n ≡ number) → ⊥
 

@@ -1,4 +1,4 @@
--- What a shard's part holds of prepared and committed transactions has its record, behind each
+-- What a shard's part holds of prepared and committed transactions has its record, after each
 -- message to a participant.
 use Rattle.std.proofs.Common.{◌≡◌, ◌-◌, ℕ, Bool, true, false, List, [], ◌∷◌, Option, Some, None}
 use Rattle.std.proofs.Common.{Result, Ok, Err, IfSome, refl, sym, subst, nat_eq, nat_lt, int_lt}

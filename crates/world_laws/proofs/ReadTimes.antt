@@ -76,7 +76,7 @@ timed_if : (P R : ℕ → Type 0) → ((t : ℕ) → P t → R t) → (r : Optio
 timed_if P R h None k = tt
 timed_if P R h (Some r) k = if_weaker P R h (time_in r) k
 
--- an Answer that a shard gives is this shard's, of a time that it is behind
+-- an Answer that a shard gives is this shard's, of a time that it is after
 abbrev Told : ℕ → NodeState → Msg → Type 0
 Told number n (msg.Answer a) = (a.shard ≡ number) × IsBehind n a.read_at
 Told number n other = Unit {0}
@@ -451,7 +451,7 @@ goes_same : (old new : Nodes) → new.shards ≡ old.shards → Goes old new
 goes_same old new is shard t h x e =
     h x (sym (ap (λ (l : List NodeState). slice_get l shard) is) ∙ e)
 
--- what a shard gives out is behind it
+-- what a shard gives out is after it
 some_is : {A : Type 0} (x y : A) → Some x ≡ Some y → x ≡ y
 some_is x y e = grind arith
 

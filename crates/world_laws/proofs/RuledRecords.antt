@@ -1,4 +1,4 @@
--- What a shard holds and tells of prepared and committed transactions has its record, behind the
+-- What a shard holds and tells of prepared and committed transactions has its record, after the
 -- rule of each message.
 use Rattle.std.proofs.Common.{◌≡◌, sym, subst, Bool, true, false, if◌then◌else◌, ℕ, ℤ, List, []}
 use Rattle.std.proofs.Common.{◌∷◌, All, Option, Some, None, IfSome, Result, refl, nat_eq}

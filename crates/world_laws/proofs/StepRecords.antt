@@ -1,4 +1,4 @@
--- What a shard holds and tells of prepared and committed transactions has its record, behind a
+-- What a shard holds and tells of prepared and committed transactions has its record, after a
 -- step.
 use Rattle.std.proofs.Common.{◌≡◌, ℕ, max, List, All, Option, Some, None, IfSome, option_map}
 use Rattle.std.proofs.Common.{option_and_then, unwrap_or, is_some, Err, refl, sym, arith, ◌∙◌}
@@ -95,7 +95,7 @@ module _ (V C : Tag → ℕ → Type 0) where
   })
   happens s what.Moment h k = quiet_does s h
 
-  -- want of memory
+  -- out of memory
 
   abbrev Wants : ShardState → Option Wanting → Type 0
   Wants s w = IfSome w (λ w. LetterRecorded V C s.part.shard w.letter.1)

@@ -1,4 +1,4 @@
--- No time that a shard's state holds, records or sends is above its clock, behind a step.
+-- No time that a shard's state holds, records or sends is above its clock, after a step.
 use Rattle.std.proofs.Common.{◌≡◌, Result, Ok, ◌≤◌, ℕ, max, List, All, Option, Some, None, IfSome}
 use Rattle.std.proofs.Common.{option_map, option_and_then, unwrap_or, is_some, Err, refl, sym}
 use Rattle.std.proofs.Common.{arith, ◌∙◌}
@@ -119,7 +119,7 @@ happens s what.Resend h k = rules None (on_resend s) (record {
 })
 happens s what.Moment h k = quiet_does s h
 
--- want of memory
+-- out of memory
 
 abbrev Wants : ShardState → Option Wanting → Type 0
 Wants s w = IfSome w (λ w. LetterBehind 0 s.part.shard w.letter.1)

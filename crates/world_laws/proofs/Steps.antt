@@ -126,7 +126,7 @@ happens P s e what.Resend is =
     }
 happens P s e what.Moment is = calm P s e
 
--- want of memory
+-- out of memory
 
 abbrev WantsNone : (Named → Type 0) → Option Wanting → Type 0
 WantsNone P w = IfSome w (λ w. NamesOnly P w.letter)

@@ -234,7 +234,7 @@ on_sent old new out e n h =
     Contains ns n) (sym (filter_map-append (λ (e : Envelope). named_in e.msg) old.sent out))
     (Contains-append_left (names old.sent) (names out) n h))
 
--- what is named behind a step that names nothing new was named before
+-- what is named after a step that names nothing new was named before
 pub back_sent : (old new : Nodes) (out : List Envelope) → new.sent ≡ old.sent ++ out
     → SentNames (Contains (names_of old)) out → (n : Named) → Contains (names_of new) n
     → Contains (names_of old) n

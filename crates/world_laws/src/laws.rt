@@ -17,7 +17,7 @@ ghost use Rattle.world_laws.specs.Tags.{AllPlansNamed};
 ghost use Rattle.world_laws.specs.Boots.{BootsStand};
 ghost use Rattle.world_laws.specs.Above.{ResolvedStand, AllGrow};
 
-/// A running shard's clock is at or below its last ceiling, behind each event.
+/// A running shard's clock is at or below its last ceiling, after each event.
 pub fn clocks_stay_below_their_ceilings()
     ensures step { (old : Nodes) (ran : Ran) (new : Nodes) → Happens old ran new → ClocksStand old
         → ClocksStand new }
@@ -33,20 +33,20 @@ pub fn routers_ask_and_shards_tell()
 {}
 
 /// Each read timestamp that a shard answered, and each time in its records, is at or below its
-/// clock while it runs and its last ceiling, behind each event.
+/// clock while it runs and its last ceiling, after each event.
 pub fn reads_stay_behind()
     ensures step { (old : Nodes) (ran : Ran) (new : Nodes) → Happens old ran new → AllRoutersAsk old
         → ClocksStand old → ReadsStand old → ReadsStand new }
     ensures part { (nodes : Nodes) → ReadsStand nodes → ReadsBehind nodes }
 {}
 
-/// What a shard coordinates was named by a message, behind each event.
+/// What a shard coordinates was named by a message, after each event.
 pub fn what_is_coordinated_was_named()
     ensures { (old : Nodes) (ran : Ran) (new : Nodes) → Happens old ran new → AllPlansNamed old
         → AllPlansNamed new }
 {}
 
-/// A tag stands for one begin at one router, behind each event. What names it names one session and
+/// A tag stands for one begin at one router, after each event. What names it names one session and
 /// number; its serial was drawn at its router; and a router begins one transaction for a session
 /// and number in a boot. What a router has begun in this boot stands beside it: its session has it
 /// still, or has gone on to a larger number.
@@ -58,7 +58,7 @@ pub fn tags_are_begun_once()
 {}
 
 /// What is told as committed has its record: a vote with a time the record that prepares, and a
-/// commit that was told its own record or its coordinator's decision, behind each event. What
+/// commit that was told its own record or its coordinator's decision, after each event. What
 /// shards hold of it stands beside it.
 pub fn what_is_told_is_recorded()
     ensures step { (old : Nodes) (ran : Ran) (new : Nodes) → Happens old ran new → RoutersAsk ran
@@ -66,7 +66,7 @@ pub fn what_is_told_is_recorded()
     ensures part { (nodes : Nodes) → RecordsStand nodes → CommitsRecorded nodes }
 {}
 
-/// No message has a boot above that of the shard that it is of, but for a token's, behind each
+/// No message has a boot above that of the shard that it is of, but for a token's, after each
 /// event. What routers have of the shards that take part, and what shards coordinate and record,
 /// stands beside it, with each shard's boot, which is that of its records.
 pub fn boots_stay_behind()
@@ -84,7 +84,7 @@ pub fn what_is_resolved_stays_so()
         → ResolvedStand old → AllGrow old new }
 {}
 
-/// All of this stands behind each event, and so behind each run, where it stood before. It stands
+/// All of this stands after each event, and so after each run, where it stood before. It stands
 /// of nodes that have started where their disks' records have no time above their last ceiling,
 /// begin no commit of several shards, and have the record of each commit that they apply; a new
 /// disk's do.

@@ -105,7 +105,7 @@ fn unloaded(alloc: Global, mut rows: BTreeMap<Place, Kept>) -> Result<Writes, Al
     Ok(writes)
 }
 
-/// The last write to each document, of some writes and of those behind them, rising by namespace
+/// The last write to each document, of some writes and of those after them, rising by namespace
 /// and id.
 pub fn merged(alloc: Global, own: &[Write], writes: &Writes) -> Result<Writes, AllocError>
     requires { AllHaveOwnIds own.now }

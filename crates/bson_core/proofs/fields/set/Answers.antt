@@ -29,7 +29,7 @@ value_at_first name value (field ∷ fields) (suc at) default within named befor
     rw other (ap (λ (rest : Document). field ∷ rest) (value_at_first name value fields at default
     (omega arith) named (λ k below. before (suc k) (omega arith))))
 
--- Where no field has the name, a field goes behind them all.
+-- Where no field has the name, a field goes after them all.
 value_behind : (name : List ℕ) (value : Value) (doc : Document) (default : List ℕ × Value)
     → ((k : ℕ) → k < length doc → has_name name (get_or doc k default) ≡ false)
     → doc ++ (name, value) ∷ [] ≡ with_value name value doc

@@ -27,7 +27,7 @@ at_first lsid session (entry ∷ table) (suc at) default within named before =
     rw other (ap (λ (rest : BySession Session). entry ∷ rest) (at_first lsid session table at
     default (omega arith) named (λ k below. before (suc k) (omega arith))))
 
--- Where no entry has the name, one goes behind them all.
+-- Where no entry has the name, one goes after them all.
 behind : (lsid : Lsid) (session : Session) (table : BySession Session) (default : Lsid × Session)
     → ((k : ℕ) → k < length table → has_name lsid (get_or table k default) ≡ false)
     → table ++ (lsid, session) ∷ [] ≡ with_entry lsid session table
