@@ -21,4 +21,4 @@ pub use reading::{decode, front_name, front_u32};
 pub use sizes::size;
 pub use text::{Bytes, Name, Text};
 pub use value::{Bin, Doc, List, Value, copy_doc, copy_list};
-pub use writing::{append, encode};
+pub use writing::{append, encode, low_bytes};

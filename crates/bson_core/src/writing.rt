@@ -13,7 +13,7 @@ use std::alloc::{AllocError, Global};
 const MOST: u64 = 0x7fff_ffff;
 
 /// The four low bytes of a count, lowest first.
-fn low_bytes(count: u64) -> [u8; 4]
+pub fn low_bytes(count: u64) -> [u8; 4]
     ensures { result ≡ to_le_bytes w32 count }
 {
     let bytes = count.to_le_bytes();

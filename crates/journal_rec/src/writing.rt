@@ -3,21 +3,15 @@ ghost use Rattle.std.specs.Prelude.{◌≡◌, ◌≤◌, ◌∷◌, ◌++◌, l
 ghost use Rattle.txn_types.specs.Ids.{value_of_id, id_document};
 ghost use Rattle.journal_rec.specs.Volume.{write_bytes, each_write_bytes, writes_bytes};
 ghost use Rattle.std.specs.Int.{w16, w32, to_le_bytes};
-ghost use Rattle.bson_core.specs.Spelling.{spelling};
 ghost use Rattle.journal_rec.specs.Spelling.{tag_bytes, named_bytes, decision_bytes, decided_bytes, part_bytes, each_part_bytes, parts_bytes, preparing_bytes, time_bytes, record_bytes};
 
 use crate::error::RecErr;
 use crate::fixed::{decision_array, named_array, tag_array, write_decided};
 use crate::record::{Decided, Rec};
-use crate::sizes::volume;
-use bson_core::{Doc, Name, Value, encode as encode_document};
+use bson_core::{Doc, Name, Value, append, low_bytes};
 use sqlite_items::Items;
 use std::alloc::{AllocError, Global};
 use txn_types::{Decision, Id, Lsid, Ns, Parts, Tag, Ts, Write};
-
-/// No writes have more bytes, since the count of a document is an int32 that isn't negative. Beyond
-/// it there is no memory for them.
-const MOST: u64 = 0x7fff_ffff;
 
 #[tactic(auto, unfolding(crate::specs::Spelling::time_bytes))]
 fn put_time(out: &mut Vec<u8>, at: Ts) -> Result<(), AllocError>
@@ -66,17 +60,6 @@ fn id_document(alloc: Global, id: &Id) -> Result<Doc, AllocError>
     Ok(Items::from_vec(fields))
 }
 
-/// A document, whose bytes have a count.
-fn put_document(alloc: Global, out: &mut Vec<u8>, doc: &Doc) -> Result<(), AllocError>
-    requires { length (spelling doc.now) ≤ MOST }
-    ensures { OnOk result (out.new.items ≡ out.old.items ++ spelling doc.now) }
-{
-    match encode_document(alloc, doc, out) {
-        Ok(()) => Ok(()),
-        Err(_) => Err(AllocError),
-    }
-}
-
 /// The length of a namespace, and its bytes.
 fn put_namespace(out: &mut Vec<u8>, ns: &Ns) -> Result<(), AllocError>
     ensures { OnOk result
@@ -88,25 +71,23 @@ fn put_namespace(out: &mut Vec<u8>, ns: &Ns) -> Result<(), AllocError>
 }
 
 fn put_write(alloc: Global, out: &mut Vec<u8>, write: &Write) -> Result<(), AllocError>
-    requires { length (write_bytes write.now) ≤ MOST }
     ensures { OnOk result (out.new.items ≡ out.old.items ++ write_bytes write.now) }
 {
     match write {
         Write::Put { ns, doc, .. } => {
             put_namespace(out, ns)?;
             out.push(1)?;
-            put_document(alloc, out, doc)
+            append(doc, out)
         }
         Write::Delete { ns, id } => {
             put_namespace(out, ns)?;
             out.push(0)?;
-            put_document(alloc, out, &id_document(alloc, id)?)
+            append(&id_document(alloc, id)?, out)
         }
     }
 }
 
 fn put_each(alloc: Global, out: &mut Vec<u8>, writes: &[Write]) -> Result<(), AllocError>
-    requires { length (each_write_bytes writes.now) ≤ MOST }
     ensures { OnOk result (out.new.items ≡ out.old.items ++ each_write_bytes writes.now) }
 {
     for write in writes {
@@ -119,10 +100,7 @@ fn put_each(alloc: Global, out: &mut Vec<u8>, writes: &[Write]) -> Result<(), Al
 fn put_writes(alloc: Global, out: &mut Vec<u8>, writes: &[Write]) -> Result<(), AllocError>
     ensures { OnOk result (out.new.items ≡ out.old.items ++ writes_bytes writes.now) }
 {
-    if volume(writes) > MOST {
-        return Err(AllocError);
-    }
-    out.extend_from_slice(&(writes.len() as u32).to_le_bytes())?;
+    out.extend_from_slice(&low_bytes(writes.len() as u64))?;
     put_each(alloc, out, writes)
 }
 
@@ -261,8 +239,7 @@ fn put_record(alloc: Global, out: &mut Vec<u8>, rec: &Rec) -> Result<(), AllocEr
     }
 }
 
-/// Appends the bytes of writes, as they stand in a record. It is refused only out of memory,
-/// which is also the answer for writes of more than 2,147,483,647 bytes.
+/// Appends the bytes of writes, as they stand in a record. It is refused only out of memory.
 pub fn encode_writes(alloc: Global, writes: &[Write], out: &mut Vec<u8>) -> Result<(), RecErr>
     ensures ok { OnOk result (out.new.items ≡ out.old.items ++ writes_bytes writes.now) }
     ensures memory { IfErr result (λ e. e ≡ RecErr.Memory) }
@@ -280,8 +257,8 @@ pub fn encode_parts(parts: &Parts, out: &mut Vec<u8>) -> Result<(), RecErr>
     Ok(())
 }
 
-/// Appends the record's bytes, in its one spelling. It is refused only out of memory, which
-/// is also the answer for writes of more than 2,147,483,647 bytes.
+/// Appends the record's bytes, in its one spelling. It is refused only out of memory. (A reader
+/// takes no document of more than 2,147,483,647 bytes; no shard makes one.)
 pub fn encode(alloc: Global, rec: &Rec, out: &mut Vec<u8>) -> Result<(), RecErr>
     ensures ok { OnOk result (out.new.items ≡ out.old.items ++ record_bytes rec.now) }
     ensures unchanged { OnErr result (out.new.items ≡ out.old.items) }
