@@ -42,6 +42,7 @@ pub(crate) struct Connection {
 
 impl Model for Connection {
     ghost use Rattle.std.specs.Prelude.{◌≡◌};
+    ghost use Rattle.op_msg.specs.Limits.{most_message};
     ghost use Rattle.client_streams.specs.Streams.{Connection};
 
     ghost Value = { Connection };

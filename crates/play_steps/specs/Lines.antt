@@ -109,3 +109,15 @@ from_lines dump (l ∷ lines) p =
 
 unfoldable pub next : List ℕ → Player → Next
 next dump p = or_lines (ready p) (λ q. from_lines dump q.lines q)
+
+-- Schedules without a restart.
+
+abbrev pub AsksNoRestart : Option Line → Type 0
+AsksNoRestart None = Unit {0}
+AsksNoRestart (Some (line.Restart node)) = ⊥
+AsksNoRestart (Some other) = Unit {0}
+
+-- no line asks that a node starts again
+abbrev pub HaveNoRestart : List (List ℕ) → Type 0
+HaveNoRestart [] = Unit {0}
+HaveNoRestart (l ∷ lines) = AsksNoRestart (line_of l) × HaveNoRestart lines

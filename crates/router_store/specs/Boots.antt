@@ -40,6 +40,11 @@ last_boot recs = unwrap_or (boot_behind None recs) 0
 abbrev pub next_boot : List Rec → ℕ
 next_boot recs = last_boot recs + 1
 
+-- the journal of a router at this boot: boots that rise, of which this is the last
+pub record AreBoots (recs : List Rec) (boot : ℕ) : Type 0 where
+  pub follow : first_refused recs ≡ None
+  pub last : last_boot recs ≡ boot
+
 -- the record of this number is the first that isn't a next boot, or no boot is left
 abbrev pub HasBadBoots : List Rec → ℕ → Type 0
 HasBadBoots recs index = (first_refused recs ≡ Some index)

@@ -50,6 +50,7 @@ fn last_boot(records: &[Rec]) -> Result<u32, u64>
 fn append_boot<L: RecordLog>(alloc: Global, log: &mut L, boot: u32) -> Result<(), NodeErr>
     requires { L.is_closed log.old ≡ false }
     ensures ok { OnOk result (L.kept log.new ≡ L.kept log.old ++ rec.Boot boot ∷ []) }
+    ensures lost { OnOk result (L.lost log.new ≡ L.lost log.old) }
     ensures faults { FailsOnly NodeErr.DiskFault (L.fault_count log.old)
         (L.fault_count log.new) result }
     ensures refused { IfErr result (RefusesBoots (L.kept log.old)) }
@@ -72,6 +73,7 @@ pub fn boot<L: RecordLog>(alloc: Global, log: &mut L) -> Result<u32, NodeErr>
     ensures follow { OnOk result (first_refused (L.kept log.old) ≡ None) }
     ensures boot { IfOk result (λ boot. (boot ≡ next_boot (L.kept log.old)) × (boot < 4294967295)) }
     ensures records { IfOk result (λ boot. L.kept log.new ≡ L.kept log.old ++ rec.Boot boot ∷ []) }
+    ensures lost { OnOk result (L.lost log.new ≡ L.lost log.old) }
     ensures refused { IfErr result (RefusesBoots (L.kept log.old)) }
     ensures faults { FailsOnly NodeErr.DiskFault (L.fault_count log.old)
         (L.fault_count log.new) result }

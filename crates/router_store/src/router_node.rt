@@ -1,8 +1,8 @@
-ghost use Rattle.std.specs.Prelude.{◌≡◌, ◌≤◌, false, IsTrue, IfOk, IfErr};
+ghost use Rattle.std.specs.Prelude.{◌≡◌, ◌≤◌, [], None, false, IsTrue, IfOk, IfErr};
 ghost use Rattle.outcomes.specs.Causes.{Rose};
 ghost use Rattle.record_store.specs.Logged.{LeftOf};
 ghost use Rattle.router_core.specs.Step.{RouterTakes};
-ghost use Rattle.router_store.specs.Boots.{RefusesBoots, RefusesRouter};
+ghost use Rattle.router_store.specs.Boots.{AreBoots, RefusesBoots, RefusesRouter};
 ghost use Rattle.router_store.specs.Routers.{Boots, StartsFrom};
 
 use crate::booting::boot;
@@ -24,9 +24,11 @@ pub struct RouterNode<L: RecordLog> {
 }
 
 impl<L: RecordLog> Model for RouterNode<L> {
+    ghost use Rattle.std.specs.Prelude.{◌≡◌, []};
     ghost use Rattle.std.specs.Coded.{codes};
     ghost use Rattle.bson_core.specs.contracts.value.Value as value;
     ghost use Rattle.txn_types.specs.contracts.filter.Filter as filter;
+    ghost use Rattle.router_store.specs.Boots.{AreBoots};
     ghost use Rattle.router_store.specs.Routers.{RouterOn};
 
     ghost Value = { RouterOn L };
@@ -38,18 +40,22 @@ impl<L: RecordLog> Model for RouterNode<L> {
       records = L.kept n.log;
       log = n.log;
     } };
+
+    ghost invariant = { λ n. AreBoots (L.kept n.log) n.router.boot × (L.lost n.log ≡ []) };
 }
 
 impl<L: RecordLog> RouterNode<L> {
     /// Starts the router of this number after the records of a log, to which the record of the
-    /// next boot is appended. It sends by the map. A refusal gives the log back.
+    /// next boot is appended. It sends by the map. No append to the log has failed. A refusal gives
+    /// the log back.
     pub fn over(
         alloc: Global,
         router: u16,
         map: ChunkMap,
         log: L,
     ) -> Result<RouterNode<L>, (NodeErr, L)>
-        requires { L.is_closed log ≡ false }
+        requires open { L.is_closed log ≡ false }
+        requires whole { L.lost log ≡ [] }
         ensures boots { IfOk result (λ n. Boots router map (L.kept log) n.router n.records) }
         ensures refused { IfErr result (λ e. RefusesBoots (L.kept log) e.0) }
         ensures fault { IfErr result (λ e.
@@ -132,9 +138,11 @@ impl<D: Disk> RouterNode<DiskLog<D>> {
         }
     }
 
-    /// The disk, to start again. A crash leaves the node's records, or these and the one in hand.
+    /// The disk, to start again. A crash leaves the node's records, which are its boots.
     pub fn into_disk(self) -> D
         ensures disk { result ≡ self.log.journal.disk }
+        ensures boots { AreBoots self.records self.router.boot }
+        ensures whole { self.log.hand ≡ None }
         ensures left { IsTrue (D.tells result)
             → LeftOf (D.may_leave result) self.records self.log.hand }
     {
