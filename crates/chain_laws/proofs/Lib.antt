@@ -1,0 +1,13 @@
+pub mod Owning
+pub mod Linking
+pub mod Same
+pub mod Moving
+pub mod Above
+pub mod Standing
+pub mod Asking
+pub mod Answering
+pub mod Turning
+pub mod Sent
+pub mod Running
+pub mod Completed
+pub mod Concluding
