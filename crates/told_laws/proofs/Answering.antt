@@ -57,7 +57,7 @@ use Rattle.told_laws.proofs.Taking.{all_replies, told_merged}
 abbrev pub taken_by : ℕ → Answer → List Unanswered → List Unanswered
 taken_by n a us = map (with_answer n a) us
 
-with_opened : (n : ℕ) (a : Answer) (u : Unanswered) → as_opened (with_answer n a u) ≡ as_opened u
+pub with_opened : (n : ℕ) (a : Answer) (u : Unanswered) → as_opened (with_answer n a u) ≡ as_opened u
 with_opened n a u = either (is_for n a u) (λ (x : Unanswered). as_opened x ≡ as_opened u)
     (record u { answers = put nat_cmp a.shard a u.answers }) u refl refl
 
@@ -208,7 +208,7 @@ five r s k l o s' k' w er es ek ew =
     ap (λ (x : Bool). true && s' && x && l && o) ek
     ∙ five_by s' k' l o ∙ ap (λ (x : Bool). s' && k' && x) (sym ew)
 
-abbrev takes : Answer → Transaction → Bool
+abbrev pub takes : Answer → Transaction → Bool
 takes a t = same_tag t.tag a.tag && nat_eq a.k t.k && is_waited a.shard t.waiting
 
 for_asked : (n : ℕ) (a : Answer) (begun us : List Unanswered) (told : List Answered)
@@ -274,7 +274,7 @@ replies_left lsid number asker op t r over =
     (commits_left lsid number (Some asker) (record t { reply = Some (st.reply_of op r None) }))
     (record { tag_is = refl; k_is = refl; over = over })
 
-not_asking : (p : Phase) (asker : Asker) (op : Op) (answers : List (ℕ × Answer)) → IsOver p
+pub not_asking : (p : Phase) (asker : Asker) (op : Op) (answers : List (ℕ × Answer)) → IsOver p
     → p ≡ Asking asker op answers → ⊥
 not_asking p asker op answers over e = subst IsOver e over
 
@@ -314,26 +314,26 @@ module _ (n : ℕ) (a : Answer) (begun us : List Unanswered) (told : List Answer
     is_one : is_for n a k.statement ≡ true
     is_one = for_asked n a begun us told t asker op answers k ∙ so
 
-    is_waited_for : is_waited a.shard t.waiting ≡ true
+    pub is_waited_for : is_waited a.shard t.waiting ≡ true
     is_waited_for = (both_true (same_tag t.tag a.tag && nat_eq a.k t.k)
         (is_waited a.shard t.waiting) so).1
 
-    answers_now : (with_answer n a k.statement).answers ≡ put nat_cmp a.shard a answers
+    pub answers_now : (with_answer n a k.statement).answers ≡ put nat_cmp a.shard a answers
     answers_now = ap (λ (x : Unanswered). x.answers) (with_yes n a k.statement is_one) ∙ ap
         (put nat_cmp a.shard a) k.answers_are
 
     shards_now : (with_answer n a k.statement).shards ≡ k.statement.shards
     shards_now = ap (λ (x : Unanswered). x.shards) (with_opened n a k.statement)
 
-    there_now : Contains (map (with_answer n a) us) (with_answer n a k.statement)
+    pub there_now : Contains (map (with_answer n a) us) (with_answer n a k.statement)
     there_now = has_map (with_answer n a) us k.statement k.there
 
-    count_now : length (put nat_cmp a.shard a answers) + length (without a.shard t.waiting) ≡ length
+    pub count_now : length (put nat_cmp a.shard a answers) + length (without a.shard t.waiting) ≡ length
         k.statement.shards
     count_now = count_behind a.shard a t.waiting k.statement.shards answers k.once is_waited_for
         (k.waited a.shard) k.count
 
-    complete_is : is_complete (with_answer n a k.statement) ≡ nat_eq
+    pub complete_is : is_complete (with_answer n a k.statement) ≡ nat_eq
         (length (put nat_cmp a.shard a answers)) (length k.statement.shards)
     complete_is = ap₂ (λ (rows : List (ℕ × Answer)) (ns : List ℕ). nat_eq (length rows) (length ns))
         answers_now shards_now

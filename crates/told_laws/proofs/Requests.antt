@@ -114,12 +114,12 @@ have_ids s frame o e =
 
 -- Requests.
 
-cmd_bind : {A B : Type 0} (r : Result A CmdErr) (f : A → Result B CmdErr) (y : B)
+pub cmd_bind : {A B : Type 0} (r : Result A CmdErr) (f : A → Result B CmdErr) (y : B)
     → (r >>= f) ≡ Ok y → (x : A) × (r ≡ Ok x) × (f x ≡ Ok y)
 cmd_bind (Ok x) f y e = (x, refl, e)
 cmd_bind (Err d) f y e = absurd cc
 
-cmd_is : {A : Type 0} (x y : A) → ◌≡◌ {A = Result A CmdErr} (Ok x) (Ok y) → x ≡ y
+pub cmd_is : {A : Type 0} (x y : A) → ◌≡◌ {A = Result A CmdErr} (Ok x) (Ok y) → x ≡ y
 cmd_is x y e = cc
 
 as_ok : (r : Result Op CrudErr) (o : Op) → cmd.as_command r ≡ Ok o → r ≡ Ok o
@@ -165,7 +165,7 @@ request_ids wall frame r e =
     by_ids a.0 frame r d.2
 
 -- read, with what was read
-asked_case : (x : Result Request CmdErr) (r : Request) → messages.asked_by x ≡ Ok r → x ≡ Ok r
+pub asked_case : (x : Result Request CmdErr) (r : Request) → messages.asked_by x ≡ Ok r → x ≡ Ok r
 asked_case (Ok q) r e = let same : q ≡ r = un_is q r e in ap (λ (y : Request). Ok y) same
   where
     un_is : (x y : Request) → ◌≡◌ {A = Result Request Unserved} (Ok x) (Ok y) → x ≡ y

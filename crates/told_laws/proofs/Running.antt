@@ -339,7 +339,7 @@ unfolding sp.router_step
 did_behind routers n r e begun us told there h = happened_behind routers n r e.wall e.what e
     (sp.closed_at (walled r e.wall) e.what) _ _ begun us told refl there h
 
-memory_state : (r : RouterState) (e : NodeEvent) → (sp.router_step true r e).state ≡ r
+pub memory_state : (r : RouterState) (e : NodeEvent) → (sp.router_step true r e).state ≡ r
 unfolding sp.router_step
 memory_state r e = refl
 
@@ -351,7 +351,7 @@ pub record Booked (l : Ledger) (begun : List Unanswered) (told : List Answered) 
   pub book : BookStands l.routers begun l.unanswered told
 
 -- an entry of the ledger, with what it opened
-abbrev IsBooked : Entered → List Unanswered → List Answered → Nodes → Type 0
+abbrev pub IsBooked : Entered → List Unanswered → List Answered → Nodes → Type 0
 IsBooked x begun told nodes = Booked x.ledger begun (told ++ x.answered) nodes
 
 passes_on : (l : Ledger) (begun : List Unanswered) (told : List Answered) (old new : Nodes)
@@ -393,7 +393,7 @@ router_booked l begun told old n e a faults new h k =
     (λ (w : Nodes). w.routers) h.nodes ∙ ap (slice_set old.routers n) h.takes.2 in
     rw there (rw h.takes.1 (by_want h.takes.0 l n h.before e begun told old new there rs k))
 
-step_booked : (l : Ledger) (begun : List Unanswered) (told : List Answered) (old : Nodes)
+pub step_booked : (l : Ledger) (begun : List Unanswered) (told : List Answered) (old : Nodes)
     (ran : Ran) (new : Nodes) → Happens old ran new → Booked l begun told old
     → IsBooked (entered_by l ran) (begun ++ opened_in_step l ran) told new
 unfolding entered_by
@@ -458,7 +458,7 @@ fresh_router_stands n boot chunks = record {
   alone = λ lsid other s v e f same. let no : None ≡ Some s = e in grind (arith, no);
 }
 
-fresh_booked : (chunks : Map) (nodes : Nodes) → IsFresh chunks nodes
+pub fresh_booked : (chunks : Map) (nodes : Nodes) → IsFresh chunks nodes
     → Booked (fresh_ledger nodes.routers) [] [] nodes
 fresh_booked chunks nodes f = record {
   same = refl;
