@@ -58,32 +58,33 @@ played_over told chunks p start held held' (Err (stop.Cut cuts.Memory)) h stops 
 played_over told chunks p start held held' (Err (stop.Lone node error disk)) h stops =
     lone_at told chunks p start held held' node error stops
 
-over : (P : Schedule → Nodes → Type 0) (lines : List (List ℕ)) (s : Schedule) (start : Nodes)
-    → schedule_of lines ≡ Ok s → AreStarted s.conf start → P s start → Over P lines
-over P lines s start reads started played =
+over : (told : Type 0) (P : Schedule → Nodes → Type 0) (lines : List (List ℕ)) (s : Schedule)
+    (start : Nodes) → schedule_of lines ≡ Ok s → AreStarted told s.conf start → P s start
+    → Over told P lines
+over told P lines s start reads started played =
     record { schedule = s; reads = reads; start = start; started = started; played = played }
 
 -- over the nodes of a schedule
 pub ended_over : (told : Type 0) (lines : List (List ℕ)) (s : Schedule) (start : Nodes)
     (held held' : Option (List ℕ)) (end : Status)
-    → schedule_of lines ≡ Ok s → AreStarted s.conf start
+    → schedule_of lines ≡ Ok s → AreStarted told s.conf start
     → EndedOver told s.conf.map (player_of s) start held held' end
     → Ended told lines held held' end
 ended_over told lines s start held held' status.Ok reads started h =
-    over _ lines s start reads started h
+    over told _ lines s start reads started h
 ended_over told lines s start held held' (status.BadLine line) reads started h =
-    inr (over _ lines s start reads started h)
+    inr (over told _ lines s start reads started h)
 ended_over told lines s start held held' status.Budget reads started h =
-    over _ lines s start reads started h
+    over told _ lines s start reads started h
 ended_over told lines s start held held' status.BadConf reads started h = absurd h
 ended_over told lines s start held held' (status.DiskFault disk) reads started h =
-    inr (h.0, h.1, over _ lines s start reads started h.2)
+    inr (h.0, h.1, over told _ lines s start reads started h.2)
 ended_over told lines s start held held' (status.BadJournal disk index) reads started h =
-    inr (h.0, h.1, over _ lines s start reads started h.2)
+    inr (h.0, h.1, over told _ lines s start reads started h.2)
 ended_over told lines s start held held' status.WriteFault reads started h =
-    over _ lines s start reads started h
+    over told _ lines s start reads started h
 ended_over told lines s start held held' status.Memory reads started h =
-    inr (over _ lines s start reads started h)
+    inr (over told _ lines s start reads started h)
 ended_over told lines s start held held' status.ReadFault reads started h = absurd h
 
 -- the nodes don't start
@@ -140,7 +141,7 @@ count_of {A} {B} f xs ys n is all = is ∙ sym (length-map xs f) ∙ ap (λ (l :
 -- over the schedule of a front
 pub front_over : (told : Type 0) (lines : List (List ℕ)) (s : Schedule) (start : Nodes)
     (held held' : Option (List ℕ)) (end : Status) (chunks : Map) (p : Player) (shards routers : ℕ)
-    → schedule_of lines ≡ Ok s → AreStarted s.conf start → chunks ≡ s.conf.map
+    → schedule_of lines ≡ Ok s → AreStarted told s.conf start → chunks ≡ s.conf.map
     → p ≡ first_player shards routers s.taken s.lines → shards ≡ s.conf.shards
     → routers ≡ s.conf.routers
     → EndedOver told chunks p start held held' end → Ended told lines held held' end

@@ -7,3 +7,6 @@ mod Leaving
 mod Doing
 mod Endings
 mod Restarts
+mod Unended
+mod Reboots
+mod Running

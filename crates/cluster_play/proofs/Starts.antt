@@ -1,8 +1,12 @@
 -- Nodes as their starts left them.
 use Rattle.std.proofs.Common.{◌≡◌, ◌<◌, ◌≤◌, ℕ, zero, suc, List, [], ◌∷◌, ◌++◌, length, Some, map}
-use Rattle.std.proofs.Common.{refl, sym, ap, subst, ◌∙◌, arith, slice_get}
+use Rattle.std.proofs.Common.{refl, sym, ap, subst, ◌∙◌, arith, slice_get, Result, Ok}
 use Rattle.std.proofs.lemmas.List.{length-map}
-use Rattle.shard_core.specs.NodeStep.{NodeState}
+use Rattle.journal_rec.specs.declared.record.Rec.{Rec}
+use Rattle.journal_core.proofs.Spelling.{young_reads}
+use Rattle.record_store.specs.Found.{records_of}
+use Rattle.node_store.specs.Starts.{StartsFrom}
+use Rattle.shard_core.specs.NodeStep.{NodeState, started as start_of}
 use Rattle.chunk_map.specs.Map.{Map}
 use Rattle.router_state.specs.State.{RouterState}
 use Rattle.node_store.specs.Nodes.{ShardOn}
@@ -13,6 +17,19 @@ use Rattle.cluster_play.specs.Ended.{AreStarted}
 use Rattle.cluster_play.specs.Steps.{nodes_of}
 use Rattle.cluster_play.specs.Starting.{IsStarted, AllStarted, IsBooted, AllBooted, shard_states}
 use Rattle.cluster_play.specs.Starting.{router_states}
+
+ok_same : {A B : Type 0} {x y : A} → ◌≡◌ {A = Result A B} (Ok x) (Ok y) → x ≡ y
+ok_same is = cc
+
+-- a shard that starts from a disk of 17 bytes at most has no record
+pub started_new : (told tells : Type 0) (n : ℕ) (s : NodeState) (file : List ℕ) → (told → tells)
+    → (tells → length file ≤ 17) → StartsFrom n tells file s → IsStarted told n s
+started_new told tells n s file tell short from =
+    let none : told → from.recs ≡ [] = λ t.
+    let payloads : from.found.payloads ≡ [] =
+    ok_same (sym (from.found.file_has (tell t)) ∙ young_reads file (short (tell t))) in
+    ok_same (sym from.found.are ∙ ap records_of payloads) in
+    record { recs = from.recs; faults = s.faults; new = none; starts = from.starts }
 
 -- one more at the end of a list
 all_push : {A : Type 0} (P : ℕ → A → Type 0) (xs : List A) (x : A)
@@ -29,17 +46,19 @@ map_push : {A B : Type 0} (f : A → B) (xs : List A) (x : A)
 map_push f [] x = refl
 map_push f (y ∷ ys) x = ap (λ zs. f y ∷ zs) (map_push f ys x)
 
-pub shards_push : {D : Type 0} (shards new : List (ShardOn (DiskRecords D)))
+pub shards_push : {D : Type 0} (told : Type 0) (shards new : List (ShardOn (DiskRecords D)))
     (node : ShardOn (DiskRecords D)) (shard : ℕ) → new ≡ shards ++ node ∷ [] → shard ≡ length shards
-    → AllStarted (shard_states shards) → IsStarted shard node.node → AllStarted (shard_states new)
-shards_push {D} shards new node shard is place all one =
+    → AllStarted told (shard_states shards) → IsStarted told shard node.node
+    → AllStarted told (shard_states new)
+shards_push {D} told shards new node shard is place all one =
     let f : ShardOn (DiskRecords D) → NodeState = λ (n : ShardOn (DiskRecords D)). n.node in
     let at : length (map f shards) ≡ shard = length-map shards f ∙ sym place in
-    let last : IsStarted (length (map f shards)) node.node =
-    subst (λ (k : ℕ). IsStarted k node.node) (sym at) one in
+    let last : IsStarted told (length (map f shards)) node.node =
+    subst (λ (k : ℕ). IsStarted told k node.node) (sym at) one in
     let pushed : shard_states new ≡ map f shards ++ node.node ∷ [] =
     ap (λ (l : List (ShardOn (DiskRecords D))). map f l) is ∙ map_push f shards node in
-    subst AllStarted (sym pushed) (all_push IsStarted (map f shards) node.node all last)
+    subst (AllStarted told) (sym pushed)
+    (all_push (IsStarted told) (map f shards) node.node all last)
 
 pub routers_push : {D : Type 0} (chunks : Map) (routers new : List (RouterOn (DiskRecords D)))
     (node : RouterOn (DiskRecords D)) (router : ℕ) → new ≡ routers ++ node ∷ []
@@ -57,32 +76,38 @@ routers_push {D} chunks routers new node router is place all one =
     (all_push (IsBooted chunks) (map f routers) node.router all last)
 
 -- none
-pub none_started : (shards : List NodeState) → length shards ≡ 0 → AllStarted shards
-none_started [] none = λ n s is. cc
-none_started (s ∷ shards) none = absurd (omega (arith, none))
+pub none_started : (told : Type 0) (shards : List NodeState) → length shards ≡ 0
+    → AllStarted told shards
+none_started told [] none = λ n s is. cc
+none_started told (s ∷ shards) none = absurd (omega (arith, none))
 
 pub none_booted : (chunks : Map) (routers : List RouterState) → length routers ≡ 0
     → AllBooted chunks routers
 none_booted chunks [] none = λ n r is. cc
 none_booted chunks (r ∷ routers) none = absurd (omega (arith, none))
 
-pub are_started : {D : Type 0} (conf : Settings) (shards : List (ShardOn (DiskRecords D)))
+pub are_started : {D : Type 0} (told : Type 0) (conf : Settings) (shards : List (ShardOn (DiskRecords D)))
     (routers : List (RouterOn (DiskRecords D))) → 1 ≤ conf.shards → conf.map.shards ≡ conf.shards
-    → AllStarted (shard_states shards) → AllBooted conf.map (router_states routers)
+    → AllStarted told (shard_states shards) → AllBooted conf.map (router_states routers)
     → length shards ≡ conf.shards → length routers ≡ conf.routers
-    → AreStarted conf (nodes_of shards routers)
-are_started {D} conf shards routers some same started booted count many =
+    → AreStarted told conf (nodes_of shards routers)
+are_started {D} told conf shards routers some same started booted count many =
     let f : ShardOn (DiskRecords D) → NodeState = λ (n : ShardOn (DiskRecords D)). n.node in
     let h : RouterOn (DiskRecords D) → RouterState = λ (n : RouterOn (DiskRecords D)). n.router in
     let states : length (map f shards) ≡ conf.shards = length-map shards f ∙ count in
     record {
       fresh = record {
-        shards = started;
+        shards = λ n s is. let one = started n s is in (one.recs, one.faults, one.starts);
         routers = booted;
         sent = refl;
         count = same ∙ sym states;
         some = subst (λ (k : ℕ). 0 < k) (sym states) (omega (arith, some));
       };
+      new = λ t n s is.
+          let one = started n s is in (
+            one.faults,
+            subst (λ (r : List Rec). start_of n r one.faults ≡ Some s) (one.new t) one.starts,
+          );
       shards = states;
       routers = length-map routers h ∙ many;
     }

@@ -19,6 +19,7 @@ use Rattle.cluster_play.specs.Plays.{next_at, Turn, PlaysTo}
 use Rattle.cluster_play.specs.Ended.{Written, IsTurnText, CutShort}
 use Rattle.cluster_play.specs.Steps.{StopLeaves, TurnedTo, TurnStops, PlaysUpTo, PlayStops}
 use Rattle.cluster_play.proofs.Texts.{went_parts, part_all, part_none}
+use Rattle.cluster_play.proofs.Running.{calm_run}
 
 pub played_none : (told : Type 0) (chunks : Map) (p : Player) (nodes : Nodes)
     → PlaysTo told chunks p nodes [] [] p nodes
@@ -85,6 +86,7 @@ progress_last told chunks p q nodes mid held held1 held2 last h comes went = rec
   text = h.text ++ (next_at chunks mid q).0;
   behind = mid;
   plays = record { front = h.text; player = q; turns = h.turns; comes = comes; is = refl };
+  run = λ calm. calm_run told chunks p nodes h.items h.text q mid calm h.turns;
   went = went_more held held1 held2 h.text (next_at chunks mid q).0 h.went went;
 }
 
@@ -112,6 +114,7 @@ progress_cut told chunks p q nodes mid held held1 held2 text h is part =
       player = q;
       nodes = mid;
       turns = h.turns;
+      run = λ calm. calm_run told chunks p nodes h.items h.text q mid calm h.turns;
       between = held1;
       went = h.went;
       next = text;
@@ -152,6 +155,7 @@ written_cut told chunks last p nodes held held' w =
       player = w.plays.player;
       nodes = w.behind;
       turns = w.plays.turns;
+      run = w.run;
       between = parts.0;
       went = parts.1;
       next = n;

@@ -1,6 +1,8 @@
 -- How the playing of a schedule ended, and what was written by then.
-use Rattle.std.specs.Prelude.{◌≡◌, ◌<◌, ◌≤◌, ◌⊎◌, ℕ, ◌+◌, List, length, Option, Ok, Err}
+use Rattle.std.specs.Prelude.{◌≡◌, ◌<◌, ◌≤◌, ◌⊎◌, ℕ, ◌+◌, List, [], length, Option, Some, Ok}
+use Rattle.std.specs.Prelude.{Err, slice_get}
 use Rattle.outside_core.specs.Bytes.{Went, WentInPart}
+use Rattle.shard_core.specs.NodeStep.{NodeState, started}
 use Rattle.chunk_map.specs.Map.{Map}
 use Rattle.cluster_conf.specs.Conf.{Settings}
 use Rattle.cluster_core.specs.Nodes.{Nodes}
@@ -14,11 +16,14 @@ use Rattle.play_steps.specs.Player.{Player}
 use Rattle.cluster_play.specs.declared.status.Status.{Status}
 use Rattle.cluster_play.specs.declared.status.Status.TheVariants as status
 use Rattle.cluster_play.specs.Schedule.{Schedule, schedule_of, player_of}
-use Rattle.cluster_play.specs.Plays.{next_at, Turn, PlaysTo, Plays}
+use Rattle.cluster_play.specs.Plays.{next_at, Turn, PlaysTo, Plays, IsCalm, IsRun}
 
--- the nodes of a configuration, each as its start left it
-pub record AreStarted (conf : Settings) (nodes : Nodes) : Type 0 where
+-- The nodes of a configuration, each as its start left it. A disk of more than 17 bytes is refused,
+-- so where disks tell what they hold each shard starts from no record.
+pub record AreStarted (told : Type 0) (conf : Settings) (nodes : Nodes) : Type 0 where
   pub fresh : IsFresh conf.map nodes
+  pub new : told → (n : ℕ) (s : NodeState) → slice_get nodes.shards n ≡ Some s
+      → (faults : ℕ) × (started n [] faults ≡ Some s)
   pub shards : length nodes.shards ≡ conf.shards
   pub routers : length nodes.routers ≡ conf.routers
 
@@ -31,13 +36,14 @@ abbrev pub HasPlace : Settings → ℕ → Type 0
 HasPlace conf place = (place < conf.shards) ⊎ ((16 ≤ place) × (place < 16 + conf.routers))
 
 -- The schedule was played up to where `last` comes next, and its whole text up to there was
--- written, and no more.
+-- written, and no more. Where no line asks for a restart, that is a run that may happen.
 pub record Written (told : Type 0) (chunks : Map) (last : Want) (p : Player) (start : Nodes)
     (held held' : Option (List ℕ)) : Type 0 where
   pub items : List (Option Ran)
   pub text : List ℕ
   pub behind : Nodes
   pub plays : Plays told chunks last p start items text behind
+  pub run : IsCalm p → IsRun start items behind
   pub went : Went held held' text
 
 -- the text of a turn, or of what stands in it before what comes next
@@ -46,7 +52,8 @@ IsTurnText told chunks p nodes text =
     (text ≡ (next_at chunks nodes p).0) ⊎ ((item : Option Ran) × (q : Player) × (behind : Nodes)
     × Turn told chunks (next_at chunks nodes p) nodes item text q behind)
 
--- of some turns the whole text was written, and of the next one a front of it
+-- of some turns the whole text was written, and of the next one a front of it; the turns are a run
+-- likewise
 pub record CutShort (told : Type 0) (chunks : Map) (p : Player) (start : Nodes)
     (held held' : Option (List ℕ)) : Type 0 where
   pub items : List (Option Ran)
@@ -54,6 +61,7 @@ pub record CutShort (told : Type 0) (chunks : Map) (p : Player) (start : Nodes)
   pub player : Player
   pub nodes : Nodes
   pub turns : PlaysTo told chunks p start items text player nodes
+  pub run : IsCalm p → IsRun start items nodes
   pub between : Option (List ℕ)
   pub went : Went held between text
   pub next : List ℕ
@@ -61,20 +69,21 @@ pub record CutShort (told : Type 0) (chunks : Map) (p : Player) (start : Nodes)
   pub part : WentInPart between held' next
 
 -- the schedule that lines are, and the nodes that it was played over
-pub record Over (P : Schedule → Nodes → Type 0) (lines : List (List ℕ)) : Type 0 where
+pub record Over (told : Type 0) (P : Schedule → Nodes → Type 0)
+    (lines : List (List ℕ)) : Type 0 where
   pub schedule : Schedule
   pub reads : schedule_of lines ≡ Ok schedule
   pub start : Nodes
-  pub started : AreStarted schedule.conf start
+  pub started : AreStarted told schedule.conf start
   pub played : P schedule start
 
 abbrev pub Played : Type 0 → List (List ℕ) → Want → Option (List ℕ) → Option (List ℕ) → Type 0
 Played told lines last held held' =
-    Over (λ s start. Written told s.conf.map last (player_of s) start held held') lines
+    Over told (λ s start. Written told s.conf.map last (player_of s) start held held') lines
 
 abbrev pub PlayedInPart : Type 0 → List (List ℕ) → Option (List ℕ) → Option (List ℕ) → Type 0
 PlayedInPart told lines held held' =
-    Over (λ s start. CutShort told s.conf.map (player_of s) start held held') lines
+    Over told (λ s start. CutShort told s.conf.map (player_of s) start held held') lines
 
 -- the lines are refused for this reason, and nothing was written
 abbrev pub IsRefused : List (List ℕ) → Status → Option (List ℕ) → Option (List ℕ) → Type 0

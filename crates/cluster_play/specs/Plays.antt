@@ -1,7 +1,7 @@
 -- What the run of a schedule is: what its lines ask, one after the other; and what is written of
 -- it.
-use Rattle.std.specs.Prelude.{◌≡◌, ◌≢◌, ◌≤◌, ℕ, List, [], ◌∷◌, ◌++◌, Option, Some, None, slice_get}
-use Rattle.std.specs.Prelude.{slice_set}
+use Rattle.std.specs.Prelude.{◌≡◌, ◌≢◌, ◌≤◌, ◌<◌, ℕ, ◌+◌, List, [], ◌∷◌, ◌++◌, Option, Some, None}
+use Rattle.std.specs.Prelude.{slice_get, slice_set}
 use Rattle.txn_types.specs.declared.event.NodeAnswer.{NodeAnswer}
 use Rattle.txn_types.specs.declared.event.NodeAnswer.TheVariants as answer
 use Rattle.txn_types.specs.declared.event.NodeEvent.{NodeEvent}
@@ -15,7 +15,7 @@ use Rattle.router_state.specs.State.{RouterState, fresh_router}
 use Rattle.txn_model.specs.declared.ran.Ran.{Ran}
 use Rattle.txn_model.specs.declared.ran.Ran.TheVariants.{Step, Swapped}
 use Rattle.cluster_core.specs.Nodes.{Nodes, commits_of}
-use Rattle.cluster_core.specs.Trace.{Happens, MayRemain}
+use Rattle.cluster_core.specs.Trace.{Happens, IsTrace, MayRemain}
 use Rattle.cluster_world.specs.World.{HasNode, MayHappen, event_of}
 use Rattle.cluster_world.specs.declared.event.WorldEvent.{WorldEvent}
 use Rattle.cluster_world.specs.declared.event.WorldEvent.TheVariants.{At, Deliver}
@@ -24,7 +24,7 @@ use Rattle.play_text.specs.Text.{boot_line, dump_text}
 use Rattle.play_steps.specs.declared.want.Want.{Want}
 use Rattle.play_steps.specs.declared.want.Want.TheVariants as want
 use Rattle.play_steps.specs.Player.{Player}
-use Rattle.play_steps.specs.Lines.{Next, next}
+use Rattle.play_steps.specs.Lines.{Next, HaveNoRestart, next}
 use Rattle.play_steps.specs.Taking.{where_logs}
 use Rattle.play_steps.specs.Steps.{given_of, answer_text, behind_answer}
 
@@ -72,22 +72,29 @@ pub record ShardRestarts (told : Type 0) (old : Nodes) (n : ℕ) (new : Nodes) :
   pub nodes : new
       ≡ record { shards = slice_set old.shards n after; routers = old.routers; sent = old.sent }
 
--- a router starts again, with the map of the configuration, at the boot after those in its journal
-pub record RouterRestarts (chunks : Map) (old : Nodes) (n : ℕ) (new : Nodes) : Type 0 where
-  pub before : RouterState
+-- A router starts again, with the map of the configuration, at some boot. That is the next one,
+-- where disks tell what they hold.
+pub record BootsAgain (told : Type 0) (chunks : Map) (n : ℕ)
+    (before after : RouterState) : Type 0 where
   pub boot : ℕ
+  pub next : told → boot ≡ before.boot + 1
+  pub left : told → before.boot < 4294967294
+  pub starts : after ≡ fresh_router n boot chunks
+
+pub record RouterRestarts (told : Type 0) (chunks : Map) (old : Nodes) (n : ℕ)
+    (new : Nodes) : Type 0 where
+  pub before : RouterState
+  pub after : RouterState
   pub there : slice_get old.routers n ≡ Some before
-  pub nodes : new ≡ record {
-    shards = old.shards;
-    routers = slice_set old.routers n (fresh_router n boot chunks);
-    sent = old.sent;
-  }
+  pub again : BootsAgain told chunks n before after
+  pub nodes : new
+      ≡ record { shards = old.shards; routers = slice_set old.routers n after; sent = old.sent }
 
 -- what happened to the nodes
 abbrev pub Happened : Type 0 → Map → Nodes → Ran → Nodes → Type 0
 Happened told chunks old (Step node e a faults) new = Happens old (Step node e a faults) new
 Happened told chunks old (Swapped (Shard n)) new = ShardRestarts told old n new
-Happened told chunks old (Swapped (Router n)) new = RouterRestarts chunks old n new
+Happened told chunks old (Swapped (Router n)) new = RouterRestarts told chunks old n new
 
 -- What is written of it, with the nodes after it; and the player then.
 
@@ -135,6 +142,22 @@ PlaysTo told chunks p nodes (item ∷ items) text q behind =
     (first rest : List ℕ) × (mid : Player) × (between : Nodes)
     × Turn told chunks (next_at chunks nodes p) nodes item first mid between
     × (text ≡ first ++ rest) × PlaysTo told chunks mid between items rest q behind
+
+-- Runs without a restart.
+
+-- no line that is to come asks for one, and nothing else was asked
+abbrev pub IsCalm : Player → Type 0
+IsCalm p = HaveNoRestart p.lines × (p.queue ≡ [])
+
+-- what happened, without what couldn't be
+abbrev pub ran_of : List (Option Ran) → List Ran
+ran_of [] = []
+ran_of (None ∷ items) = ran_of items
+ran_of (Some ran ∷ items) = ran ∷ ran_of items
+
+-- each item may happen in a cluster, one after the other
+abbrev pub IsRun : Nodes → List (Option Ran) → Nodes → Type 0
+IsRun start items behind = (trace : List Nodes) × IsTrace start (ran_of items) trace behind
 
 -- The items are what the schedule asks up to where `last` comes next; this is the whole text up to
 -- there, with what stands in front of `last`: at the end of the schedule that is the list of

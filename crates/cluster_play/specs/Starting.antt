@@ -1,5 +1,5 @@
 -- Nodes as their starts left them, and their disks.
-use Rattle.std.specs.Prelude.{◌≡◌, ◌<◌, ◌≤◌, ℕ, List, ◌++◌, map, take, drop, Some, slice_get}
+use Rattle.std.specs.Prelude.{◌≡◌, ◌<◌, ◌≤◌, ℕ, List, [], ◌++◌, map, take, drop, Some, slice_get}
 use Rattle.journal_rec.specs.declared.record.Rec.{Rec}
 use Rattle.shard_core.specs.NodeStep.{NodeState, started}
 use Rattle.chunk_map.specs.Map.{Map}
@@ -10,12 +10,16 @@ use Rattle.record_store.specs.Logged.{DiskRecords}
 use Rattle.txn_types.specs.declared.node.NodeId.{NodeId}
 use Rattle.txn_types.specs.declared.node.NodeId.TheVariants.{Shard, Router}
 
--- it started from some records
-abbrev pub IsStarted : ℕ → NodeState → Type 0
-IsStarted n s = (recs : List Rec) × (faults : ℕ) × (started n recs faults ≡ Some s)
+-- it started from some records; from none, where its disk tells what it holds (`told`)
+pub record IsStarted (told : Type 0) (n : ℕ) (s : NodeState) : Type 0 where
+  pub recs : List Rec
+  pub faults : ℕ
+  pub new : told → recs ≡ []
+  pub starts : started n recs faults ≡ Some s
 
-abbrev pub AllStarted : List NodeState → Type 0
-AllStarted shards = (n : ℕ) (s : NodeState) → slice_get shards n ≡ Some s → IsStarted n s
+abbrev pub AllStarted : Type 0 → List NodeState → Type 0
+AllStarted told shards = (n : ℕ) (s : NodeState) → slice_get shards n ≡ Some s
+    → IsStarted told n s
 
 -- it is fresh, at some boot
 abbrev pub IsBooted : Map → ℕ → RouterState → Type 0

@@ -1,5 +1,5 @@
 //! Nodes and their disks.
-ghost use Rattle.std.specs.Prelude.{◌≡◌, ◌<◌, ◌≤◌, ◌+◌, ◌-◌, ◌++◌, ◌∷◌, [], length, IfOk, IfErr, OnOk, OnErr, vec_len, vec_capacity};
+ghost use Rattle.std.specs.Prelude.{◌≡◌, ◌<◌, ◌≤◌, ◌+◌, ◌-◌, ◌++◌, ◌∷◌, [], length, IsTrue, IfOk, IfErr, OnOk, OnErr, vec_len, vec_capacity};
 ghost use Rattle.router_state.specs.State.{fresh_router};
 ghost use Rattle.shard_core.specs.NodeStep.{started};
 ghost use Rattle.cluster_play.specs.Ended.{place_of, AreStarted};
@@ -50,7 +50,9 @@ pub fn place_of(node: NodeId) -> u16
 }
 
 /// Why a first start isn't made from a disk.
-fn check_new<D: Disk>(disk: &mut D) -> Result<(), NodeErr> {
+fn check_new<D: Disk>(disk: &mut D) -> Result<(), NodeErr>
+    ensures { OnOk result (IsTrue (D.tells disk.new) → length (D.seen disk.new) ≤ 17) }
+{
     match disk.len() {
         Ok(length) => {
             if length > HEADER {
@@ -68,11 +70,15 @@ fn first_shard<D: Disk>(
     shard: u16,
     disk: D,
 ) -> Result<ShardNode<DiskLog<D>>, (NodeErr, D)>
-    ensures { IfOk result (λ n. IsStarted shard n.node) }
+    ensures { IfOk result
+        (λ n. IsStarted ((d : D) → IsTrue (D.tells d)) shard n.node) }
 {
     let mut disk = disk;
     match check_new(&mut disk) {
-        Ok(()) => ShardNode::start(alloc, shard, disk),
+        Ok(()) => match ShardNode::start(alloc, shard, disk) {
+            Ok(node) => Ok(node),
+            Err(refused) => Err(refused),
+        },
         Err(error) => Err((error, disk)),
     }
 }
@@ -99,8 +105,10 @@ impl<D: Disk> Nodes<D> {
         requires room { vec_len self.old.shards < vec_capacity self.old.shards }
         requires disk { 0 < vec_len disks.old }
         requires next { shard ≡ vec_len self.old.shards }
-        requires started { AllStarted (shard_states self.old.shards.items) }
-        ensures started { AllStarted (shard_states self.new.shards.items) }
+        requires started { AllStarted ((d : D) → IsTrue (D.tells d))
+            (shard_states self.old.shards.items) }
+        ensures started { AllStarted ((d : D) → IsTrue (D.tells d))
+            (shard_states self.new.shards.items) }
         ensures more { OnOk result (vec_len self.new.shards ≡ vec_len self.old.shards + 1) }
         ensures same { OnErr result (vec_len self.new.shards ≡ vec_len self.old.shards) }
         ensures all { vec_len disks.new + vec_len self.new.shards
@@ -163,7 +171,8 @@ impl<D: Disk> Nodes<D> {
         requires none { vec_len self.old.shards ≡ 0 }
         requires room { conf.now.shards ≤ vec_capacity self.old.shards }
         requires disks { vec_len disks.old ≡ 24 }
-        ensures started { AllStarted (shard_states self.new.shards.items) }
+        ensures started { AllStarted ((d : D) → IsTrue (D.tells d))
+            (shard_states self.new.shards.items) }
         ensures ok { OnOk result (vec_len self.new.shards ≡ conf.now.shards) }
         ensures refused { IfErr result (IsStartErr conf.now) }
         ensures all { vec_len disks.new + vec_len self.new.shards ≡ 24 }
@@ -213,7 +222,8 @@ impl<D: Disk> Nodes<D> {
         requires no_routers { vec_len self.old.routers ≡ 0 }
         requires disks { vec_len disks.old ≡ 24 }
         ensures started { OnOk result
-            (AreStarted conf.now (nodes_of self.new.shards.items self.new.routers.items)) }
+            (AreStarted ((d : D) → IsTrue (D.tells d)) conf.now
+            (nodes_of self.new.shards.items self.new.routers.items)) }
         ensures refused { IfErr result (IsStartErr conf.now) }
         ensures all { vec_len disks.new + vec_len self.new.shards + vec_len self.new.routers ≡ 24 }
         ensures few { vec_len self.new.routers ≤ 8 }
@@ -233,7 +243,8 @@ impl<D: Disk> Nodes<D> {
     pub fn start(alloc: Global, conf: &Conf, disks: &mut Vec<D>) -> Result<Nodes<D>, Status>
         requires { vec_len disks.old ≡ 24 }
         ensures started { IfOk result
-            (λ n. AreStarted conf.now (nodes_of n.shards.items n.routers.items)) }
+            (λ n. AreStarted ((d : D) → IsTrue (D.tells d)) conf.now
+            (nodes_of n.shards.items n.routers.items)) }
         ensures left { IfOk result
             (λ n. vec_len disks.new + vec_len n.shards + vec_len n.routers ≡ 24) }
         ensures refused { IfErr result (IsStartErr conf.now) }

@@ -1,6 +1,7 @@
 //! A schedule from its bytes to what is written.
 ghost use Rattle.std.specs.Prelude.{◌≡◌, ◌≤◌, ◌+◌, false, ℕ, List, Ok, Err, IsTrue, IfOk, IfErr, IfSome, OnOk, vec_len, vec_capacity};
 ghost use Rattle.outcomes.specs.Causes.{Rose};
+ghost use Rattle.play_script.specs.Input.{AreWhole};
 ghost use Rattle.play_script.specs.Lines.{lines_of};
 ghost use Rattle.cluster_play.specs.Schedule.{bytes_played, schedule_of, player_of};
 ghost use Rattle.cluster_play.specs.Ended.{AreStarted, Ended};
@@ -190,6 +191,8 @@ pub fn play_input<K: Sink, D: Disk>(
     // said where disks tell what they hold.
     ensures ended { Ended ((d : D) → IsTrue (D.tells d)) (lines_of
         (bytes_played input.bytes.items input.end)) (K.held out.old) (K.held out.new) result }
+    // What was read in part isn't played to a good end.
+    ensures whole { AreWhole input.bytes.items → result ≡ Status.Ok → input.end ≡ End.Whole }
     // A fault is answered only where the sink's count rose in this call.
     ensures fault { result ≡ Status.WriteFault
         → Rose (K.fault_count out.old) (K.fault_count out.new) }

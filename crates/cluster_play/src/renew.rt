@@ -1,6 +1,5 @@
 //! Nodes that start again.
 ghost use Rattle.std.specs.Prelude.{◌≡◌, ◌++◌, false, ℕ, List, Option, IsTrue, IfOk, IfErr, OnOk};
-ghost use Rattle.router_state.specs.State.{fresh_router};
 ghost use Rattle.txn_types.specs.declared.node.NodeId.TheVariants as node_kinds;
 ghost use Rattle.txn_model.specs.declared.ran.Ran.{Ran};
 ghost use Rattle.txn_model.specs.declared.ran.Ran.TheVariants.{Swapped};
@@ -8,7 +7,7 @@ ghost use Rattle.cluster_world.specs.World.{HasNode};
 ghost use Rattle.play_steps.specs.declared.want.Want.TheVariants.{Renew};
 ghost use Rattle.play_text.specs.Text.{boot_line};
 ghost use Rattle.play_steps.specs.Taking.{where_logs};
-ghost use Rattle.cluster_play.specs.Plays.{StartsAgain, ShardRestarts, RouterRestarts, Happened, boot_at, Does};
+ghost use Rattle.cluster_play.specs.Plays.{StartsAgain, BootsAgain, ShardRestarts, RouterRestarts, Happened, boot_at, Does};
 ghost use Rattle.cluster_play.specs.Steps.{StopsFor, Leaves};
 
 use crate::step::{DiskWorld, has_node};
@@ -49,9 +48,14 @@ fn router_again<D: Disk>(
     map: ChunkMap,
     node: RouterNode<DiskLog<D>>,
 ) -> Result<RouterNode<DiskLog<D>>, (NodeErr, D)>
-    ensures { IfOk result (λ n. (boot : ℕ) × (n.router ≡ fresh_router router boot map)) }
+    ensures { IfOk result (λ n.
+        BootsAgain ((d : D) → IsTrue (D.tells d)) map router node.router n.router) }
 {
-    RouterNode::start(alloc, router, map, node.into_disk())
+    what_is_left_is_found();
+    match RouterNode::start(alloc, router, map, node.into_disk()) {
+        Ok(after) => Ok(after),
+        Err(refused) => Err(refused),
+    }
 }
 
 /// A shard starts again in its place; it tells its boot.
@@ -85,7 +89,8 @@ fn renew_router<D: Disk>(
 ) -> Result<u32, Stop<D>>
     requires live { world.old.spent ≡ false }
     requires there { HasNode world.old.nodes (node_kinds.Router router) }
-    ensures restarts { OnOk result (RouterRestarts map.now world.old.nodes router world.new.nodes) }
+    ensures restarts { OnOk result (RouterRestarts ((d : D) → IsTrue (D.tells d)) map.now
+        world.old.nodes router world.new.nodes) }
     ensures boot { IfOk result (λ boot. boot ≡ boot_at world.new.nodes (node_kinds.Router router)) }
     ensures live { OnOk result (world.new.spent ≡ false) }
     ensures stop { IfErr result (StopsFor (Renew (node_kinds.Router router))) }
