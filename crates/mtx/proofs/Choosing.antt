@@ -1,14 +1,16 @@
 -- Which way a schedule was played, from what was read of it.
-use Rattle.std.proofs.Common.{◌≡◌, ℕ, Bool, true, false, List, ◌++◌, Option, Some, None, inl, inr}
+use Rattle.std.proofs.Common.{◌≡◌, ℕ, Bool, true, false, List, [], ◌++◌, Option, Some, None, inl, inr}
 use Rattle.std.proofs.Common.{◌⊎◌, refl, sym, ap, subst, ◌∙◌}
 use Rattle.std.specs.Prelude.{nat_eq, ◌&&◌}
 use Rattle.std.specs.List.{list_all, starts_with}
 use Rattle.std.proofs.lemmas.List.Folds.{list_all-append}
 use Rattle.outcomes.specs.Told.{WhereKnown}
-use Rattle.play_script.specs.Input.{IsInput}
+use Rattle.play_script.specs.Input.{AreWhole, IsInput, IsAtEnd}
 use Rattle.play_script.specs.Lines.{lines_of}
 use Rattle.play_script.specs.declared.input.End.{End}
+use Rattle.play_script.specs.declared.input.End.TheVariants.{Whole, LongLine, ManyLines}
 use Rattle.cluster_play.specs.declared.status.Status.{Status as Ending}
+use Rattle.cluster_play.specs.declared.status.Status.TheVariants as ending
 use Rattle.cluster_play.specs.Ended.{Ended}
 use Rattle.cluster_play.specs.Schedule.{bytes_played}
 use Rattle.mtx.specs.declared.status.Status.{Status}
@@ -127,10 +129,28 @@ cluster_way told (Some input) bytes end held held' s ending more is same ended =
           held' s) (sym more) (record { ending = ending; status = same; ended = ended });
     })
 
--- what was read has another line, so the input has
-pub not_alone : (left : Option (List ℕ)) (bytes : List ℕ) (end : End) (P : List ℕ → Type 0)
-    → WhereKnown left (λ input. IsInput input bytes end) → has_clients_alone (lines_of bytes)
-    ≡ false → WhereKnown left (λ input. AskAlone input → P input)
-not_alone left bytes end P told more =
-    told_then left (λ input. IsInput input bytes end) (λ input. AskAlone input → P input) told
-    (λ input is alone. absurd (never (sym (alone_read input bytes end is alone) ∙ more)))
+-- where the lines that were read are the whole input, nothing is left of it
+read_whole : (input bytes : List ℕ) (end : End) → IsInput input bytes end
+    → (AreWhole bytes → end ≡ Whole) → end ≡ Whole
+read_whole input bytes Whole is whole = refl
+read_whole input bytes LongLine is whole = whole is.2
+read_whole input bytes ManyLines is whole = whole is.2
+
+pub read_to_end : (left left' : Option (List ℕ)) (bytes : List ℕ) (end : End)
+    → WhereKnown left (λ input. IsInput input bytes end)
+    → WhereKnown left (λ input. IsAtEnd left' end) → (AreWhole bytes → end ≡ Whole)
+    → WhereKnown left (λ input. left' ≡ Some [])
+read_to_end None left' bytes end is at whole = tt
+read_to_end (Some input) left' bytes end is at whole =
+    subst (IsAtEnd left') (read_whole input bytes end is whole) at
+
+pub ends_ok : (e : Ending) → status_of e ≡ status.Ok → e ≡ ending.Ok
+ends_ok ending.Ok is = refl
+ends_ok (ending.BadLine n) is = cc
+ends_ok ending.ReadFault is = cc
+ends_ok ending.WriteFault is = cc
+ends_ok ending.Memory is = cc
+ends_ok (ending.DiskFault d) is = cc
+ends_ok (ending.BadJournal d i) is = cc
+ends_ok ending.Budget is = cc
+ends_ok ending.BadConf is = cc

@@ -41,7 +41,7 @@ fn play<S: Source, K: Sink, D: Disk>(
     ensures played { WhereKnown (S.left src.old) (λ input. IsPlayed ((d : D) → IsTrue (D.tells d))
         input (K.held out.old) (K.held out.new) result) }
     ensures at_end { result ≡ Status.Ok
-        → WhereKnown (S.left src.old) (λ input. AskAlone input → S.left src.new ≡ Some []) }
+        → WhereKnown (S.left src.old) (λ input. S.left src.new ≡ Some []) }
     ensures disks { vec_len disks.new ≡ 24 }
     ensures unread { IsUnread result → K.held out.new ≡ K.held out.old }
     ensures words { (index : ℕ) → result ≡ Status.BadWords index → ⊥ }
@@ -94,7 +94,7 @@ pub fn offline<S: Source, K: Sink, D: Disk>(
         (λ input. AskAlone input → WhereKnown (K.held out.old)
         (λ before. WhereKnown (K.held out.new) (λ after. Wrote input before after result))) }
     ensures at_end { result ≡ Status.Ok
-        → WhereKnown (S.left src.old) (λ input. AskAlone input → S.left src.new ≡ Some []) }
+        → WhereKnown (S.left src.old) (λ input. S.left src.new ≡ Some []) }
     ensures disks { vec_len disks.new ≡ 24 }
     ensures unread { IsUnread result → K.held out.new ≡ K.held out.old }
     // A fault is answered only where that object's count rose in this call.

@@ -1,9 +1,9 @@
-use Rattle.std.proofs.Common.{◌≡◌, true, List, [], ℕ, Some, refl, sym, ap, ◌∙◌}
+use Rattle.std.proofs.Common.{◌≡◌, true, List, ℕ, refl, sym, ap, ◌∙◌}
 use Rattle.std.specs.Prelude.{IsTrue}
 use Rattle.play_script.specs.Lines.{lines_of}
 use Rattle.mtx.specs.Choice.{has_clients_alone}
 use Rattle.mtx.proofs.Endings.{told_input}
-use Rattle.mtx.proofs.Choosing.{plain_way, not_alone}
+use Rattle.mtx.proofs.Choosing.{plain_way, read_to_end, ends_ok}
 use Rattle.mtx.proofs.offline.play.Goals as goal
 
 pub returns-then-has_clients_alone-clause-played : goal.returns-then-has_clients_alone-clause-played
@@ -22,7 +22,7 @@ returns-then-has_clients_alone-clause-played g c =
 
 pub returns-clause-at_end : goal.returns-clause-at_end
 returns-clause-at_end g c = λ ok.
-    not_alone (g.S.Source.left c.args.src.now) c.in-Ok.input.bytes.items c.in-Ok.input.end
-    (λ input. g.S.Source.left c.read_input.new.src ≡ Some []) c.in-Ok.ensures.read
-    (ap (λ (b : List ℕ). has_clients_alone (lines_of b)) (sym c.deref.ensures.value)
-    ∙ sym c.has_clients_alone.ensures ∙ c.if-has_clients_alone.false)
+    read_to_end (g.S.Source.left c.args.src.now) (g.S.Source.left c.read_input.new.src)
+    c.in-Ok.input.bytes.items c.in-Ok.input.end c.in-Ok.ensures.read c.in-Ok.ensures.at_end
+    (λ whole. c.play_input.ensures.whole whole
+    (ends_ok c.play_input.result (sym c.from.ensures ∙ ok)))
