@@ -12,17 +12,16 @@ use Rattle.play_script.specs.declared.input.End.TheVariants.{Whole, LongLine, Ma
 use Rattle.cluster_play.specs.declared.status.Status.{Status as Ending}
 use Rattle.cluster_play.specs.declared.status.Status.TheVariants as ending
 use Rattle.cluster_play.specs.Ended.{Ended}
+use Rattle.play_steps.specs.declared.want.Want.TheVariants as want
+use Rattle.played_laws.proofs.Played.{played_right}
 use Rattle.cluster_play.specs.Schedule.{bytes_played}
 use Rattle.mtx.specs.declared.status.Status.{Status}
 use Rattle.mtx.specs.declared.status.Status.TheVariants as status
 use Rattle.mtx.specs.Choice.{client, has_clients_alone, AskAlone, PlayedPlain, PlayedOver, PlayedBy}
-use Rattle.mtx.specs.Choice.{PlayedAsRead, IsPlayed}
+use Rattle.mtx.specs.Choice.{PlayedAsRead, IsPlayed, RightBy}
 use Rattle.mtx.specs.Ending.{Judges, IsInterrupted, Wrote}
 use Rattle.mtx.specs.Statuses.{status_of}
 use Rattle.mtx.proofs.Endings.{told_then, told_same, cut_nothing, input_parts}
-
-never : true ≡ false → ⊥
-never h = absurd (cc)
 
 and_left : (a b : Bool) → (a && b) ≡ true → a ≡ true
 and_left true b h = refl
@@ -113,6 +112,20 @@ plain_way told (Some input) bytes end held held' s alone is judged text =
           s) (sym alone) (record { judged = judged (Some input) is; text = text (Some input) is });
     })
 
+right_by : (told : Type 0) (lines : List (List ℕ)) (held held' : Option (List ℕ)) (e : Ending)
+    (w : Ended told lines held held' e) → RightBy told lines held held' e w
+right_by told lines held held' ending.Ok w = played_right told lines want.End held held' w
+right_by told lines held held' (ending.BadLine n) (inl r) = tt
+right_by told lines held held' (ending.BadLine n) (inr w) =
+    played_right told lines (want.Bad n) held held' w
+right_by told lines held held' ending.Budget w = played_right told lines want.Spent held held' w
+right_by told lines held held' ending.BadConf w = tt
+right_by told lines held held' (ending.DiskFault d) w = tt
+right_by told lines held held' (ending.BadJournal d i) w = tt
+right_by told lines held held' ending.WriteFault w = tt
+right_by told lines held held' ending.Memory w = tt
+right_by told lines held held' ending.ReadFault w = tt
+
 pub cluster_way : (told : Type 0) (left : Option (List ℕ)) (bytes : List ℕ)
     (end : End) (held held' : Option (List ℕ)) (s : Status) (ending : Ending)
     → has_clients_alone (lines_of bytes) ≡ false
@@ -126,7 +139,12 @@ cluster_way told (Some input) bytes end held held' s ending more is same ended =
       end = end;
       read = is;
       played = subst (λ (b : Bool). PlayedBy b told input (lines_of (bytes_played bytes end)) held
-          held' s) (sym more) (record { ending = ending; status = same; ended = ended });
+          held' s) (sym more) (record {
+            ending = ending;
+            status = same;
+            ended = ended;
+            right = right_by told (lines_of (bytes_played bytes end)) held held' ending ended;
+          });
     })
 
 -- where the lines that were read are the whole input, nothing is left of it

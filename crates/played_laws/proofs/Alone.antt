@@ -1,11 +1,11 @@
 -- The plain configuration has one shard, which starts alone on a new disk.
-use Rattle.std.proofs.Common.{◌≡◌, ℕ, suc, zero, List, [], ◌∷◌, length, Some, None, refl, sym, ap}
+use Rattle.std.proofs.Common.{◌≡◌, ℕ, List, [], ◌∷◌, length, Some, refl, sym, ap}
 use Rattle.std.proofs.Common.{◌∙◌, subst, arith}
 use Rattle.std.specs.Prelude.{slice_get}
-use Rattle.chunk_map.specs.Map.{Map, IsMap}
+use Rattle.chunk_map.specs.Map.{IsMap}
 use Rattle.cluster_conf.specs.Conf.{Settings, plain}
 use Rattle.cluster_core.specs.Nodes.{Nodes}
-use Rattle.shard_core.specs.NodeStep.{NodeState, started}
+use Rattle.shard_core.specs.NodeStep.{NodeState}
 use Rattle.one_shard_laws.specs.Concluding.{StartsAlone}
 use Rattle.cluster_play.specs.Ended.{AreStarted}
 
