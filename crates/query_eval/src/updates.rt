@@ -88,6 +88,20 @@ fn and_without_name(
     Ok(fields)
 }
 
+/// The document's fields of other names. They move: none is copied.
+fn remove_name(alloc: Global, mut doc: Doc, name: &str) -> Result<Doc, AllocError>
+    ensures { IfOk result (λ new. new ≡ without_name name.now doc) }
+{
+    let mut fields = Vec::new(alloc);
+    while let Some((field, value)) = doc.pop() {
+        if field.as_str() != name {
+            fields.push((field, value))?;
+        }
+    }
+    fields.reverse();
+    Ok(Items::from_vec(fields))
+}
+
 /// The document with the value at its place, or after the others.
 fn with_value(alloc: Global, mut doc: Doc, name: &Name, value: Value) -> Result<Doc, AllocError>
     ensures { IfOk result (λ new. new ≡ with_value name.now value doc) }
@@ -107,10 +121,7 @@ fn applied(alloc: Global, op: &UpdateOp, doc: Doc) -> Result<Doc, ApplyErr>
             let value = op.value.copy(alloc)?;
             Ok(with_value(alloc, doc, &op.name, value)?)
         }
-        UpdateKind::Unset => {
-            let fields = and_without_name(alloc, Vec::new(alloc), &doc, op.name.as_str())?;
-            Ok(Items::from_vec(fields))
-        }
+        UpdateKind::Unset => Ok(remove_name(alloc, doc, op.name.as_str())?),
         UpdateKind::Inc => {
             let sum = increased(&doc, op.name.as_str(), &op.value)?;
             Ok(with_value(alloc, doc, &op.name, sum)?)
