@@ -16,7 +16,7 @@ use Rattle.txn_semantics.specs.Rows.{IsRising, put_row, delete_row, holds_id}
 use Rattle.query_eval.specs.Held.{kept}
 use Rattle.txn_semantics.proofs.Parts.{AllAbove}
 
-back : (a b : Id) (o : Ordering) → id_cmp a b ≡ o → id_cmp b a ≡ ordering_reverse o
+pub back : (a b : Id) (o : Ordering) → id_cmp a b ≡ o → id_cmp b a ≡ ordering_reverse o
 back a b o h = id_total.antisymm b a ∙ ap ordering_reverse h
 
 pub above_index : {A : Type 0} (id : Id) (rows : List (Id × A)) (k : ℕ) (d : Id × A)

@@ -44,7 +44,7 @@ known_case one rows (Some doc) is known =
     let all : AreKnown document_rules ((one.0, doc) ∷ rows_in rows) =
     subst (AreKnown document_rules) (kept_some doc_in one.0 one.1 doc rows is) known in all.1
 
-known_at : (rows : List (Id × Held)) (i : ℕ) (d : Id × Held) (doc : Document) → i < length rows
+pub known_at : (rows : List (Id × Held)) (i : ℕ) (d : Id × Held) (doc : Document) → i < length rows
     → AreKnown document_rules (rows_in rows) → doc_in (get_or rows i d).1 ≡ Some doc
     → id_in doc ≡ Some (get_or rows i d).0
 known_at [] i d doc h known is = absurd (omega (arith, h))

@@ -2,3 +2,4 @@ pub mod Wanted
 pub mod Refusals
 pub mod Held
 pub mod Acts
+pub mod Outside

@@ -24,6 +24,7 @@ use crate::counts::counted;
 use crate::error::{ApplyErr, EvalErr};
 use crate::finding::find;
 use crate::held::{Held, holds, put};
+use crate::places::wanted_places;
 use crate::rows::{rows_under, wanted, writes_to};
 use crate::updates::apply;
 use bson_core::{Doc, append, copy_doc, size};
@@ -132,9 +133,10 @@ fn update_item(
     ensures { Acts put_content laid_over (update_step document_rules item.now (rows_in rows.old))
         rows.old rows.new result }
 {
+    let places = wanted_places(alloc, &item.filter, rows)?;
     let mut met = Met { n: 0, changed: 0 };
-    for row in rows.iter_mut() {
-        let count = match change_row(alloc, item, row) {
+    for at in places.from..places.to {
+        let count = match change_row(alloc, item, &mut rows[at]) {
             Err(err) => return Err(err),
             Ok(None) => continue,
             Ok(Some(count)) => count,
@@ -159,15 +161,20 @@ fn drop_row(filter: &Filter, row: &mut (Id, Held<'_>)) -> bool
     true
 }
 
-fn delete_item(item: &DeleteItem, rows: &mut [(Id, Held<'_>)]) -> Result<Met, EvalErr>
+fn delete_item(
+    alloc: Global,
+    item: &DeleteItem,
+    rows: &mut [(Id, Held<'_>)],
+) -> Result<Met, EvalErr>
     requires rising { IsRising rows.old }
     requires known { AreKnown document_rules (rows_in rows.old) }
     ensures { Acts no_content without (delete_step document_rules item.now (rows_in rows.old))
         rows.old rows.new result }
 {
+    let places = wanted_places(alloc, &item.filter, rows)?;
     let mut met = Met { n: 0, changed: 0 };
-    for held in rows.iter_mut() {
-        if !drop_row(&item.filter, held) {
+    for at in places.from..places.to {
+        if !drop_row(&item.filter, &mut rows[at]) {
             continue;
         }
         met.n += 1;
@@ -261,7 +268,7 @@ fn delete(
 {
     let mut n = 0;
     for item in items {
-        let met = match delete_item(item, &mut rows) {
+        let met = match delete_item(alloc, item, &mut rows) {
             Ok(met) => met,
             Err(err) => return Err(err),
         };
@@ -271,8 +278,9 @@ fn delete(
     Ok((OpReply::Count { n, modified: 0 }, writes))
 }
 
-/// What the operation answers and writes over these rows, under the transaction's own writes. Of an
-/// update or a find the time is linear in the number of rows, for each item; no document is copied
+/// What the operation answers and writes over these rows, under the transaction's own writes. An
+/// item of an update or a delete goes through all rows, but where its filter tests `_id` for
+/// equality: there it looks for that row alone. A find goes through all rows. No document is copied
 /// but those that change or are found.
 pub fn eval(
     alloc: Global,

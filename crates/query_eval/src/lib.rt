@@ -10,6 +10,7 @@ mod finding;
 mod held;
 pub mod laws;
 mod merging;
+mod places;
 mod rows;
 mod updates;
 
