@@ -1,62 +1,28 @@
 -- Item by item: what was done so far, and what the operation means at its end.
-use Rattle.std.proofs.Common.{◌≡◌, ℕ, ◌+◌, false, List, [], ◌∷◌, ◌++◌, Option, Some, None, Ok, Err}
-use Rattle.std.proofs.Common.{length, map, refl, ap, ap₂, subst, sym, ◌∙◌, arith, if◌then◌else◌}
+use Rattle.std.proofs.Common.{◌≡◌, ℕ, ◌+◌, List, [], ◌∷◌, ◌++◌, Option, Ok}
+use Rattle.std.proofs.Common.{length, map, refl, ap, ap₂, subst, sym, ◌∙◌, arith}
 use Rattle.std.proofs.Common.{length-append, drop, take, suc, get_or, ◌<◌, ◌≤◌}
 use Rattle.std.proofs.lemmas.List.{drop_all, take_all, append-nil}
 use Rattle.std.proofs.Math.Seq.{drop-cons}
 use Rattle.std.specs.declared.cmp.Ordering.{Ordering}
 use Rattle.std.specs.declared.cmp.Ordering.TheVariants.{Less, Equal, Greater}
 use Rattle.bson_core.specs.Fields.{Document}
-use Rattle.txn_types.specs.Ids.{id_in}
 use Rattle.txn_types.specs.Order.{id_cmp}
 use Rattle.txn_types.specs.declared.id.Id.{Id}
-use Rattle.txn_types.specs.declared.operation.InsertItem.{InsertItem}
 use Rattle.txn_types.specs.declared.operation.OpReply.{OpReply}
-use Rattle.txn_types.specs.declared.operation.What.TheVariants.{Duplicate}
 use Rattle.txn_types.specs.declared.write.Write.{Write}
 use Rattle.txn_semantics.specs.Effect.{AreKnown, Done, Doing, nothing, both, with_done, after}
-use Rattle.txn_semantics.specs.Effect.{through, insert_new, insert_step}
+use Rattle.txn_semantics.specs.Effect.{through}
 use Rattle.txn_semantics.specs.Meaning.{capped, meaning_of, document_rules}
-use Rattle.txn_semantics.specs.Rows.{Row, IsRising, put_row, laid_over, holds_id}
-use Rattle.query_eval.specs.Acts.{Acted, Follows, Refuses, put_content}
+use Rattle.txn_semantics.specs.Rows.{Row, IsRising, put_row, laid_over}
+use Rattle.query_eval.specs.Acts.{Acted, Follows, Refuses}
 use Rattle.query_eval.specs.Held.{rows_in, all_written, write_of}
 use Rattle.query_eval.specs.declared.error.EvalErr.{EvalErr}
 use Rattle.query_eval.specs.declared.error.EvalErr.TheVariants.{Op, Memory}
 use Rattle.query_eval.specs.declared.evaluating.Met.{Met}
 use Rattle.query_eval.specs.declared.held.Held.{Held}
-use Rattle.query_eval.specs.declared.held.Held.TheVariants.{Own}
 use Rattle.query_eval.proofs.Acting.{with_twice, with_nothing, both_nothing, follows_start}
-use Rattle.query_eval.proofs.Acting.{follows_more, follows_put}
-
--- an insert of one document
-insert_by : InsertItem → List Row → Option Id → Doing
-insert_by item rows o = elim o [ None ↦ Ok nothing | Some id ↦ insert_new item rows id ]
-
-step_by : (item : InsertItem) (rows : List Row) (id : Id) → id_in item.doc ≡ Some id
-    → insert_step document_rules item rows ≡ insert_new item rows id
-unfolding insert_by
-step_by item rows id has = ap (insert_by item rows) has
-
-pub insert_done : (item : InsertItem) (rows next : List (Id × Held)) (id : Id) (doc : Document)
-    → id_in item.doc ≡ Some id → holds_id id (rows_in rows) ≡ false
-    → next ≡ put_row id (Own doc) rows → doc ≡ item.doc → IsRising rows
-    → AreKnown document_rules (rows_in rows)
-    → Acted put_content laid_over (insert_step document_rules item (rows_in rows)) rows next
-    (record { n = 1; changed = 1 })
-insert_done item rows next id doc has free is same rising known =
-    let done : Done = record { met = (id, item.doc) ∷ []; changed = (id, item.doc) ∷ [] } in
-    let put : next ≡ put_row id (Own item.doc) rows = is
-    ∙ ap (λ (d : Document). put_row id (Own d) rows) same in
-    record {
-      done = done;
-      does = step_by item (rows_in rows) id has
-          ∙ ap (λ b. if b then Err (record { index = item.index; id = id; what = Duplicate })
-          else Ok (record { met = (id, item.doc) ∷ []; changed = (id, item.doc) ∷ [] })) free;
-      follows = subst (Follows put_content laid_over rows done) (sym put) (follows_put rows
-          ((id, item.doc) ∷ []) id item.doc rising known has);
-      n = omega arith;
-      changed = omega arith;
-    }
+use Rattle.query_eval.proofs.Acting.{follows_more}
 
 -- the items so far, and those that are left
 pub record SoFar {I : Type 0} (step : I → List Row → Doing) (content : Document → Option Document)

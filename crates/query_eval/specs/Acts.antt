@@ -1,14 +1,15 @@
 -- What an item does to rows as they are held, and what the calls that do it give.
-use Rattle.std.specs.Prelude.{◌≡◌, ℕ, Bool, true, false, List, [], ◌∷◌, map, length, Option, Some}
-use Rattle.std.specs.Prelude.{None, Result, Ok, Err, if◌then◌else◌}
+use Rattle.std.specs.Prelude.{◌≡◌, ℕ, Bool, true, false, List, [], ◌∷◌, ◌++◌, map, length}
+use Rattle.std.specs.Prelude.{Option, Some, None, Result, Ok, Err, if◌then◌else◌}
 use Rattle.bson_core.specs.Fields.{Document}
 use Rattle.txn_types.specs.declared.filter.Filter.{Filter}
 use Rattle.txn_types.specs.declared.id.Id.{Id}
+use Rattle.txn_types.specs.declared.operation.InsertItem.{InsertItem}
 use Rattle.txn_types.specs.declared.operation.OpErr.{OpErr}
 use Rattle.txn_types.specs.declared.operation.OpReply.{OpReply}
 use Rattle.txn_types.specs.declared.operation.UpdateItem.{UpdateItem}
 use Rattle.txn_types.specs.declared.write.Write.{Write}
-use Rattle.txn_semantics.specs.Effect.{AreKnown, Done, Doing, updated}
+use Rattle.txn_semantics.specs.Effect.{AreKnown, Done, Doing, insert_step, updated}
 use Rattle.txn_semantics.specs.Filters.{matches}
 use Rattle.txn_semantics.specs.Meaning.{Meaning, document_rules}
 use Rattle.txn_semantics.specs.Rows.{Row, IsRising, laid_over}
@@ -87,7 +88,7 @@ pub record Follows (content : Document → Option Document) (left : List Row →
   pub rising : IsRising after
   pub known : AreKnown document_rules (rows_in after)
 
--- of an insert and an update, and of a delete
+-- of an update, and of a delete
 abbrev pub put_content : Document → Option Document
 put_content doc = Some doc
 
@@ -107,6 +108,19 @@ abbrev pub Acts : (Document → Option Document) → (List Row → List Row → 
     → List (Id × Held) → List (Id × Held) → Result Met EvalErr → Type 0
 Acts content left doing before after (Ok met) = Acted content left doing before after met
 Acts content left doing before after (Err e) = Refuses e doing
+
+-- An item of an insert came to rows and to what items before it added: it added its document, where
+-- that has an id.
+pub record Inserted (item : InsertItem) (rows added after : List Row) (count : ℕ) : Type 0 where
+  pub done : Done
+  pub does : insert_step document_rules item (rows ++ added) ≡ Ok done
+  pub after_is : after ≡ laid_over added done.changed
+  pub known : AreKnown document_rules done.changed
+  pub count_is : count ≡ length done.met
+
+abbrev pub Inserts : InsertItem → List Row → List Row → List Row → Result ℕ EvalErr → Type 0
+Inserts item rows added after (Ok count) = Inserted item rows added after count
+Inserts item rows added after (Err e) = Refuses e (insert_step document_rules item (rows ++ added))
 
 -- what an operation gives: its meaning, or out of memory
 abbrev pub Means : Result (OpReply × List Write) EvalErr → Meaning → Type 0

@@ -9,28 +9,29 @@
 //! and, in a statement of its own over the rows 2 alone, with the deletes as its transaction's
 //! own writes, the insert leaves `1: {n: 5}` beside what is lent; n = 1, and one write, put 1. No
 //! document is copied that isn't changed.
-ghost use Rattle.std.specs.Prelude.{◌≡◌, [], Some, None, IfOk};
+ghost use Rattle.std.specs.Prelude.{◌≡◌, [], Some, None, map, IfOk, OnOk};
 ghost use Rattle.std.specs.Str.{bytes_eq};
 ghost use Rattle.bson_core.specs.Spelling.{spelling};
 ghost use Rattle.txn_types.specs.declared.operation.Op.TheVariants as ops;
-ghost use Rattle.txn_semantics.specs.Effect.{AreKnown, updated, update_step, delete_step, insert_step, without};
-ghost use Rattle.txn_semantics.specs.Meaning.{document_rules, eval, ns_of};
-ghost use Rattle.txn_semantics.specs.Rows.{IsRising, laid_over, under};
+ghost use Rattle.txn_semantics.specs.Effect.{AreKnown, updated, update_step, delete_step, without};
+ghost use Rattle.txn_semantics.specs.Meaning.{document_rules, eval, ns_of, put_of};
+ghost use Rattle.txn_semantics.specs.Rows.{IsRising, laid_over, put_row, under};
 ghost use Rattle.query_eval.specs.Held.{rows_in, all_written};
-ghost use Rattle.query_eval.specs.Acts.{IsRefusal, Makes, Changes, Drops, Acts, put_content, no_content, Means};
+ghost use Rattle.query_eval.specs.Acts.{IsRefusal, Makes, Changes, Drops, Inserts, Acts, put_content, no_content, Means};
 ghost use Rattle.query_eval.specs.Refusals.{told};
 
 use crate::counts::counted;
 use crate::error::{ApplyErr, EvalErr};
 use crate::finding::find;
-use crate::held::{Held, holds, put};
+use crate::held::{Held, holds};
 use crate::places::wanted_places;
 use crate::rows::{rows_under, wanted, writes_to};
 use crate::updates::apply;
 use bson_core::{Doc, append, copy_doc, size};
 use std::alloc::{AllocError, Global};
+use std::collections::BTreeMap;
 use txn_types::{
-    DeleteItem, Filter, Id, InsertItem, Ns, Op, OpErr, OpReply, UpdateItem, What, Writes,
+    DeleteItem, Filter, Id, InsertItem, Ns, Op, OpErr, OpReply, UpdateItem, What, Write, Writes,
 };
 
 /// How many rows an item met, and how many of them it changed.
@@ -186,47 +187,74 @@ fn delete_item(
     Ok(met)
 }
 
+/// Adds a document under its id.
+fn add(added: &mut BTreeMap<Id, Doc>, id: Id, doc: Doc) -> Result<(), AllocError>
+    ensures { OnOk result (added.new.entries ≡ put_row id doc added.old.entries) }
+{
+    match added.insert(id, doc) {
+        Ok(_old) => Ok(()),
+        Err(_failed) => Err(AllocError),
+    }
+}
+
+/// Adds the item's document to those that items before it added, and tells how many that were.
 fn insert_item(
     alloc: Global,
     item: &InsertItem,
-    rows: &mut Vec<(Id, Held<'_>)>,
-) -> Result<Met, EvalErr>
-    requires rising { IsRising rows.old.items }
-    requires known { AreKnown document_rules (rows_in rows.old.items) }
-    ensures { Acts put_content laid_over (insert_step document_rules item.now
-        (rows_in rows.old.items)) rows.old.items rows.new.items result }
+    rows: &[(Id, Held<'_>)],
+    added: &mut BTreeMap<Id, Doc>,
+) -> Result<u64, EvalErr>
+    requires { IsRising rows.now }
+    ensures { Inserts item.now (rows_in rows.now) added.old.entries added.new.entries result }
 {
     let Some(id) = Id::in_doc(alloc, &item.doc)? else {
-        return Ok(Met { n: 0, changed: 0 });
+        return Ok(0);
     };
-    if holds(rows, &id) {
+    if holds(rows, &id) || added.contains_key(&id) {
         return Err(refused(alloc, item.index, &id, What::Duplicate));
     }
     let doc = copy_doc(alloc, &item.doc)?;
-    put(rows, id, Held::Own(doc))?;
-    Ok(Met { n: 1, changed: 1 })
+    add(added, id, doc)?;
+    Ok(1)
 }
 
+/// A write that puts it, for each of the documents.
+fn puts(alloc: Global, ns: &Ns, mut added: BTreeMap<Id, Doc>) -> Result<Writes, AllocError>
+    requires { AreKnown document_rules added.entries }
+    ensures { IfOk result (λ writes. writes ≡ map (put_of ns.now) added.entries) }
+{
+    let mut writes = Writes::new(alloc);
+    while let Some((id, doc)) = added.pop_first() {
+        writes.push(Write::Put {
+            ns: ns.copy(alloc)?,
+            id,
+            doc,
+        })?;
+    }
+    Ok(writes)
+}
+
+/// What is added is kept in a tree by id beside the rows, which stay as they are: in whatever order
+/// the ids come, no document moves for another.
 fn insert(
     alloc: Global,
     ns: &Ns,
     items: &[InsertItem],
-    mut rows: Vec<(Id, Held<'_>)>,
+    rows: &[(Id, Held<'_>)],
 ) -> Result<(OpReply, Writes), EvalErr>
-    requires rising { IsRising rows.items }
-    requires known { AreKnown document_rules (rows_in rows.items) }
-    requires unwritten { all_written rows.items ≡ [] }
-    ensures { Means result (eval (ops.Insert ns.now items.now) (rows_in rows.entry.items)) }
+    requires { IsRising rows.now }
+    ensures { Means result (eval (ops.Insert ns.now items.now) (rows_in rows.now)) }
 {
+    let mut added = BTreeMap::new(alloc);
     let mut n = 0;
     for item in items {
-        let met = match insert_item(alloc, item, &mut rows) {
-            Ok(met) => met,
+        let count = match insert_item(alloc, item, rows, &mut added) {
+            Ok(count) => count,
             Err(err) => return Err(err),
         };
-        n = counted(n, met.n);
+        n = counted(n, count);
     }
-    let writes = writes_to(alloc, ns, rows)?;
+    let writes = puts(alloc, ns, added)?;
     Ok((OpReply::Count { n, modified: 0 }, writes))
 }
 
@@ -295,7 +323,7 @@ pub fn eval(
     match op {
         Op::Insert { ns, docs } => {
             let held = rows_under(alloc, ns, rows, own.as_slice())?;
-            insert(alloc, ns, docs.as_slice(), held)
+            insert(alloc, ns, docs.as_slice(), &held)
         }
         Op::Find {
             ns,

@@ -5,12 +5,6 @@ use Rattle.txn_semantics.specs.Rows.{under}
 use Rattle.query_eval.proofs.Under.{known_under}
 use Rattle.query_eval.proofs.evaluating.eval.Goals as goal
 
-pub insert-requires-clause-known : goal.insert-requires-clause-known
-insert-requires-clause-known c =
-    subst (AreKnown document_rules) (sym (c.in_ok-held-in-Insert.ensures.rows
-    ∙ ap (under c.in-Insert.ns c.args.rows.now) c.as_slice.ensures.writes)) (known_under
-    c.in-Insert.ns c.args.rows.now c.args.own.now c.as_slice.ensures.kept c.requires.known)
-
 pub update-requires-clause-known : goal.update-requires-clause-known
 update-requires-clause-known c =
     subst (AreKnown document_rules) (sym (c.in_ok-held-in-Update.ensures.rows
