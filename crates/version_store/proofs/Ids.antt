@@ -10,7 +10,7 @@ use Rattle.std.specs.declared.cmp.Ordering.{Ordering}
 use Rattle.std.specs.declared.cmp.Ordering.TheVariants.{Less, Equal, Greater}
 use Rattle.std.specs.Ordering.{is_eq}
 use Rattle.bson_core.specs.Fields.{Document}
-use Rattle.txn_types.specs.Writes.{HasOwnId, AllHaveOwnIds}
+use Rattle.txn_types.specs.Writes.{HasOwnId}
 use Rattle.txn_types.specs.declared.id.Id.{Id}
 use Rattle.txn_types.specs.declared.names.Tag.{Tag}
 use Rattle.txn_types.specs.declared.write.Write.{Write}
@@ -23,11 +23,11 @@ use Rattle.txn_semantics.specs.Touched.{Touched, touches}
 use Rattle.txn_semantics.specs.Writes.{Place, place_of, place_cmp}
 use Rattle.txn_semantics.proofs.Places.{place_exact}
 use Rattle.version_store.specs.declared.version.Stamp.{Stamp}
-use Rattle.version_store.specs.declared.version.Stamp.TheVariants.{Unfinished, At}
+use Rattle.version_store.specs.declared.version.Stamp.TheVariants.{Unfinished}
 use Rattle.version_store.specs.declared.version.Version.{Version}
 use Rattle.version_store.specs.Versions.{Versions, first, is_of, is_committed_by, seen_version}
 use Rattle.version_store.specs.Versions.{seen, versions_of, content_of, without, with_write}
-use Rattle.version_store.specs.Versions.{with_writes, restamped, stamped, dropped, decided}
+use Rattle.version_store.specs.Versions.{restamped}
 use Rattle.version_store.specs.Versions.{touched_keys, rows_among}
 use Rattle.version_store.specs.Chains.{begins, changed_at, with_versions}
 use Rattle.version_store.specs.Ids.{HasId, HoldsId, HaveId, HaveIds}

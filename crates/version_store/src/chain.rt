@@ -1,4 +1,4 @@
-ghost use Rattle.std.specs.Prelude.{◌≡◌, [], ◌∷◌, find, map, not, is_some, None, Some, IfOk, IfErr, OnOk, OnErr};
+ghost use Rattle.std.specs.Prelude.{◌≡◌, List, [], ◌∷◌, reverse, find, map, not, is_some, None, Some, IfOk, IfErr, OnOk, OnErr};
 ghost use Rattle.std.specs.List.{filter_map};
 ghost use Rattle.std.specs.Option.{option_copied};
 ghost use Rattle.txn_types.specs.Order.{same_tag};
@@ -77,45 +77,41 @@ fn holder_of(at: Ts, tag: &Tag, stamp: &Stamp) -> Option<(Tag, Ts)>
     }
 }
 
-/// Who holds a key with these versions.
+/// Who holds a key with these versions. Lists of versions stand oldest first here, and contracts see
+/// them newest first.
 pub fn holder(at: Ts, tag: &Tag, versions: &[Version]) -> Option<(Tag, Ts)>
-    ensures { result ≡ holder at tag.now versions.now }
+    ensures { result ≡ holder at tag.now (reverse versions.now) }
 {
-    for version in versions {
+    let mut left = versions;
+    while let Some((version, older)) = left.split_last() {
         if let Some(held) = holder_of(at, tag, &version.stamp) {
             return Some(held);
         }
+        left = older;
     }
     None
 }
 
 /// The transaction's own version.
 pub fn own<'a>(tag: &Tag, versions: &'a [Version]) -> Option<&'a Version>
-    ensures { option_copied result ≡ find (is_of tag.now) versions.now }
+    ensures { option_copied result ≡ find (is_of tag.now) (reverse versions.now) }
 {
-    for version in versions {
-        if is_of(tag, version) {
-            return Some(version);
-        }
-    }
-    None
+    versions.iter().rev().find(|version| is_of(tag, version))
 }
 
 /// The newest version that was committed at or below the moment.
 fn newest_by(at: Ts, versions: &[Version]) -> Option<&Version>
-    ensures { option_copied result ≡ find (is_committed_by at) versions.now }
+    ensures { option_copied result ≡ find (is_committed_by at) (reverse versions.now) }
 {
-    for version in versions {
-        if is_committed_by(at, version) {
-            return Some(version);
-        }
-    }
-    None
+    versions
+        .iter()
+        .rev()
+        .find(|version| is_committed_by(at, version))
 }
 
 /// The document that the transaction sees there.
 pub fn seen<'a>(at: Ts, tag: &Tag, versions: &'a [Version]) -> Option<&'a Doc>
-    ensures { option_copied result ≡ seen at tag.now versions.now }
+    ensures { option_copied result ≡ seen at tag.now (reverse versions.now) }
 {
     let version = match own(tag, versions) {
         Some(version) => version,
@@ -126,12 +122,14 @@ pub fn seen<'a>(at: Ts, tag: &Tag, versions: &'a [Version]) -> Option<&'a Doc>
 
 /// When the newest commit was.
 pub fn newest_of(versions: &[Version]) -> Option<Ts>
-    ensures { result ≡ newest_of versions.now }
+    ensures { result ≡ newest_of (reverse versions.now) }
 {
-    for version in versions {
+    let mut left = versions;
+    while let Some((version, older)) = left.split_last() {
         if let Some(at) = commit(&version.stamp) {
             return Some(at);
         }
+        left = older;
     }
     None
 }
@@ -149,19 +147,21 @@ fn other_writer(tag: &Tag, version: &Version) -> Option<Tag>
 
 /// Another transaction with a version there that isn't committed.
 fn other(tag: &Tag, versions: &[Version]) -> Option<Tag>
-    ensures { result ≡ first (filter_map (other_writer_of tag.now) versions.now) }
+    ensures { result ≡ first (filter_map (other_writer_of tag.now) (reverse versions.now)) }
 {
-    for version in versions {
+    let mut left = versions;
+    while let Some((version, older)) = left.split_last() {
         if let Some(writer) = other_writer(tag, version) {
             return Some(writer);
         }
+        left = older;
     }
     None
 }
 
 /// What stands against a write of the transaction.
 pub fn against(at: Ts, tag: &Tag, versions: &[Version]) -> Option<By>
-    ensures { result ≡ against at tag.now versions.now }
+    ensures { result ≡ against at tag.now (reverse versions.now) }
 {
     if let Some(writer) = other(tag, versions) {
         return Some(By::Tag(writer));
@@ -173,24 +173,56 @@ pub fn against(at: Ts, tag: &Tag, versions: &[Version]) -> Option<By>
     None
 }
 
-/// Whether the first version is the transaction's.
+/// Whether the newest version is the transaction's.
 fn begins(tag: &Tag, versions: &[Version]) -> bool
-    ensures { result ≡ begins tag.now versions.now }
+    ensures { result ≡ begins tag.now (reverse versions.now) }
 {
-    match versions.first() {
+    match versions.last() {
         Some(version) => is_of(tag, version),
         None => false,
     }
 }
 
-/// The versions of a key, newest first. All but the first are committed.
+/// Puts a version in place of the newest one.
+fn replace_newest(versions: &mut Vec<Version>, version: Version)
+    ensures { (newest : Version) (older : List Version)
+        → reverse versions.old.items ≡ newest ∷ older
+        → reverse versions.new.items ≡ version ∷ older }
+{
+    if let Some(newest) = versions.last_mut() {
+        *newest = version;
+    }
+}
+
+/// Gives the newest version a stamp.
+fn restamp_newest(versions: &mut Vec<Version>, stamp: &Stamp)
+    ensures { (newest : Version) (older : List Version)
+        → reverse versions.old.items ≡ newest ∷ older → reverse versions.new.items
+        ≡ record { stamp = stamp.now; doc = newest.doc } ∷ older }
+{
+    if let Some(newest) = versions.last_mut() {
+        newest.stamp = *stamp;
+    }
+}
+
+/// Takes out the newest version.
+fn drop_newest(versions: &mut Vec<Version>)
+    ensures { (newest : Version) (older : List Version)
+        → reverse versions.old.items ≡ newest ∷ older → reverse versions.new.items ≡ older }
+{
+    let newest = versions.pop();
+    drop(newest);
+}
+
+/// The versions of a key, kept oldest first, so that a new one comes after the others and moves none;
+/// contracts see them newest first. All but the newest are committed.
 #[derive(Drop)]
 pub struct Chain {
     versions: Vec<Version>,
 }
 
 impl Model for Chain {
-    ghost use Rattle.std.specs.Prelude.{List};
+    ghost use Rattle.std.specs.Prelude.{List, reverse};
     ghost use Rattle.std.specs.Coded.{codes};
     ghost use Rattle.bson_core.specs.contracts.value.Value as value;
     ghost use Rattle.version_store.specs.declared.version.Version.{Version};
@@ -200,9 +232,9 @@ impl Model for Chain {
 
     ghost coded = { Prim.hlevel (codes, value.the_row.coded) };
 
-    ghost view = { λ c. c.versions.items };
+    ghost view = { λ c. reverse c.versions.items };
 
-    ghost invariant = { λ c. IsChain c.versions.items };
+    ghost invariant = { λ c. IsChain (reverse c.versions.items) };
 }
 
 impl Chain {
@@ -228,8 +260,9 @@ impl Chain {
         Ok(Chain { versions })
     }
 
+    /// The versions, oldest first.
     pub fn as_slice(&self) -> &[Version]
-        ensures { result.now ≡ self.now }
+        ensures { reverse result.now ≡ self.now }
     {
         self.versions.as_slice()
     }
@@ -248,7 +281,7 @@ impl Chain {
         versions.pop()
     }
 
-    /// Puts a version of the transaction in front, in place of its own older one.
+    /// Puts a version of the transaction before the others, in place of its own older one.
     pub fn put(&mut self, tag: &Tag, version: Version) -> Result<(), Version>
         requires { first (filter_map (other_writer_of tag.now) self.old) ≡ None }
         ensures ok { OnOk result (self.new ≡ version ∷ without tag.now self.old) }
@@ -256,10 +289,10 @@ impl Chain {
         ensures back { IfErr result (λ v. v ≡ version) }
     {
         if begins(tag, self.versions.as_slice()) {
-            self.versions[0] = version;
+            replace_newest(&mut self.versions, version);
             return Ok(());
         }
-        match self.versions.insert(0, version) {
+        match self.versions.push(version) {
             Ok(()) => Ok(()),
             Err(failed) => Err(failed.value),
         }
@@ -270,7 +303,7 @@ impl Chain {
         ensures { self.new ≡ put_back tag.now version self.old }
     {
         if begins(tag, self.versions.as_slice()) {
-            self.versions[0] = version;
+            replace_newest(&mut self.versions, version);
         }
     }
 
@@ -279,7 +312,7 @@ impl Chain {
         ensures { self.new ≡ map (restamped tag.now stamp.now) self.old }
     {
         if begins(tag, self.versions.as_slice()) {
-            self.versions[0].stamp = *stamp;
+            restamp_newest(&mut self.versions, stamp);
         }
     }
 
@@ -288,7 +321,7 @@ impl Chain {
         ensures { self.new ≡ without tag.now self.old }
     {
         if begins(tag, self.versions.as_slice()) {
-            self.versions.remove(0);
+            drop_newest(&mut self.versions);
         }
     }
 }

@@ -13,6 +13,7 @@ ghost use Rattle.std.specs.Prelude.{
   OnOk,
   OnErr,
   map,
+  reverse,
 };
 ghost use Rattle.std.specs.List.{filter_map};
 ghost use Rattle.std.specs.Option.{option_copied};
@@ -132,9 +133,9 @@ impl Store {
         self.collections.len()
     }
 
-    /// The versions of a document.
+    /// The versions of a document, oldest first.
     fn versions(&self, ns: &Ns, id: &Id) -> &[Version]
-        ensures { result.now ≡ versions_of self.now (ns.now, id.now) }
+        ensures { reverse result.now ≡ versions_of self.now (ns.now, id.now) }
     {
         match self.collections.get(ns) {
             Some(collection) => collection.versions(id),
