@@ -1,4 +1,20 @@
-ghost use Rattle.std.specs.Prelude.{◌≡◌, List, [], ◌∷◌, reverse, find, map, not, is_some, None, Some, IfOk, IfErr, OnOk, OnErr};
+ghost use Rattle.std.specs.Prelude.{
+  ◌≡◌,
+  List,
+  [],
+  ◌∷◌,
+  reverse,
+  find,
+  map,
+  not,
+  is_some,
+  None,
+  Some,
+  IfOk,
+  IfErr,
+  OnOk,
+  OnErr,
+};
 ghost use Rattle.std.specs.List.{filter_map};
 ghost use Rattle.std.specs.Option.{option_copied};
 ghost use Rattle.txn_types.specs.Order.{same_tag};
@@ -77,8 +93,8 @@ fn holder_of(at: Ts, tag: &Tag, stamp: &Stamp) -> Option<(Tag, Ts)>
     }
 }
 
-/// Who holds a key with these versions. Lists of versions stand oldest first here, and contracts see
-/// them newest first.
+/// Who holds a key with these versions. Lists of versions stand oldest first here, and contracts
+/// see them newest first.
 pub fn holder(at: Ts, tag: &Tag, versions: &[Version]) -> Option<(Tag, Ts)>
     ensures { result ≡ holder at tag.now (reverse versions.now) }
 {
@@ -214,8 +230,8 @@ fn drop_newest(versions: &mut Vec<Version>)
     drop(newest);
 }
 
-/// The versions of a key, kept oldest first, so that a new one comes after the others and moves none;
-/// contracts see them newest first. All but the newest are committed.
+/// The versions of a key, kept oldest first, so that a new one comes after the others and moves
+/// none; contracts see them newest first. All but the newest are committed.
 #[derive(Drop)]
 pub struct Chain {
     versions: Vec<Version>,
