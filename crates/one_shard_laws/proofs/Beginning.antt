@@ -57,7 +57,8 @@ module _ (P : Named → Type 0) (once : IsOnce P) (p : Part) (m : Statement) (na
   other_case tag true is h = absurd (not_held tag h is)
   other_case tag false is h = is
 
-  pub none_committed : (entries : List Entry) → Each (λ (e : Entry). IsHeld P p.sessions e.tag) entries
+  pub none_committed : (entries : List Entry)
+      → Each (λ (e : Entry). IsHeld P p.sessions e.tag) entries
       → HasNone m.tag entries
   none_committed [] h = tt
   none_committed (e ∷ entries) h =

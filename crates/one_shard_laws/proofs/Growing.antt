@@ -1,8 +1,8 @@
 -- What holds of the statements that were served, with one more.
-use Rattle.std.proofs.Common.{◌≡◌, ◌⊎◌, inl, inr, ⊎_elim, ◌≤◌, ◌<◌, ◌<ℤ◌, ◌&&◌, ◌++◌, ℕ, Bool, true}
-use Rattle.std.proofs.Common.{false, List, [], ◌∷◌, All, Contains, Some, IfSome, Result, Ok, Err, refl}
-use Rattle.std.proofs.Common.{ap, subst, ◌∙◌, sym, arith, nat_eq, if◌then◌else◌}
-use Rattle.std.proofs.lemmas.List.{append-nil}
+use Rattle.std.proofs.Common.{◌≡◌, ◌⊎◌, inl, inr, ⊎_elim, ◌≤◌, ◌<◌, ◌<ℤ◌, ℕ, Bool, true}
+use Rattle.std.proofs.Common.{false, List, [], ◌∷◌, All, Contains, Some, IfSome, Result, Ok, Err}
+use Rattle.std.proofs.Common.{refl}
+use Rattle.std.proofs.Common.{ap, subst, ◌∙◌, sym, arith}
 use Rattle.std.proofs.lemmas.List.Elements.{All-head}
 use Rattle.txn_types.specs.Order.{same_tag, same_lsid}
 use Rattle.txn_types.specs.declared.cause.Cause.{Cause}
@@ -17,18 +17,19 @@ use Rattle.txn_types.specs.declared.names.Tag.{Tag}
 use Rattle.txn_types.specs.declared.node.Lsid.{Lsid}
 use Rattle.txn_types.specs.declared.operation.OpReply.{OpReply}
 use Rattle.txn_semantics.specs.declared.commits.Entry.{Entry}
-use Rattle.txn_semantics.specs.Meaning.{Meaning, writes_of}
+use Rattle.txn_semantics.specs.Meaning.{Meaning}
 use Rattle.txn_semantics.specs.Writes.{write_set}
 use Rattle.session_table.specs.declared.session.Session.{Session}
 use Rattle.participant.specs.declared.said.Open.{Open}
 use Rattle.participant.specs.Expiry.{expire}
 use Rattle.participant.specs.Part.{Part, session, open_of, elsewhere, is_open}
-use Rattle.participant.proofs.Tags.{tag_self, tag_flip}
+use Rattle.participant.proofs.Tags.{tag_self}
 use Rattle.part_laws.specs.Each.{Each}
-use Rattle.part_laws.specs.Sound.{Opens, Served, written, HasNone}
+use Rattle.part_laws.specs.Sound.{Opens, Served, HasNone}
 use Rattle.part_laws.specs.Parts.{opened_of, LiveAt, IsServing}
 use Rattle.part_laws.specs.Turned.{IsOf, NoneBegins, IsLiveFor, LivesFor, Begins, Continues, IsAnew}
 use Rattle.part_laws.proofs.Chains.{each_both}
+use Rattle.part_laws.proofs.Serving.{written_other}
 use Rattle.part_laws.proofs.Elapsed.{session_of_open, expire_holds}
 use Rattle.part_laws.proofs.Ended.{at_live}
 use Rattle.part_laws.proofs.Turns.{elsewhere_all}
@@ -61,13 +62,6 @@ below_least a b c h is = omega (arith, h, is)
 
 same_least : (a b : ℕ) → b ≡ a → a ≤ b
 same_least a b is = omega (arith, is)
-
--- what is served of one transaction is none of another's writes
-written_other : (x : Served) (served : List Served) (tag : Tag) (life : ℕ)
-    → same_tag tag x.tag ≡ false → written tag life (x ∷ served) ≡ written tag life served
-written_other x served tag life apart =
-    ap (λ (b : Bool). written tag life served ++ (if b && nat_eq x.life life then writes_of x.meaning
-    else [])) (tag_flip x.tag tag ∙ apart) ∙ append-nil (written tag life served)
 
 pub committed_still : (sent : List Envelope) (x : Served) (served : List Served)
     (entries : List Entry) → HasNone x.tag entries → Each (WasCommitted sent served) entries

@@ -19,12 +19,12 @@ pub record StartsAlone (chunks : Map) (nodes : Nodes) : Type 0 where
   pub shards : nodes.shards ≡ node ∷ []
   pub starts : started 0 [] faults ≡ Some node
 
--- The statements that were served, the newest first: each in a boot of the shard, and each was sent;
--- of one transaction in one boot their places rise, and they read at one moment; each was told what
--- it means over the commits that there are now, under what its transaction wrote before it. Each
--- commit is above what it read at, and holds documents under their own ids; it was asked for, and
--- holds what the statements of its transaction wrote in that boot. And each Answer that was sent
--- tells of one of them, of the boot that it names.
+-- The statements that were served, the newest first: each in a boot of the shard, and each was
+-- sent; of one transaction in one boot their places rise, and they read at one moment; each was
+-- told what it means over the commits that there are now, under what its transaction wrote before
+-- it. Each commit is above what it read at, and holds documents under their own ids; it was asked
+-- for, and holds what the statements of its transaction wrote in that boot. And each Answer that
+-- was sent tells of one of them, of the boot that it names.
 pub record ServedRight (nodes : Nodes) : Type 0 where
   pub served : List Served
   pub lives : Each (λ (x : Served). 0 < x.life) served

@@ -32,8 +32,9 @@ use Rattle.one_shard_laws.specs.Asking.{AllRoutersAsk}
 abbrev pub WasNamed : List Envelope → Named → Type 0
 WasNamed sent x = Contains (filter_map (λ e. named_in e.msg) sent) x
 
--- Each statement that was served was sent. The first of its transaction in a boot of the shard names
--- no boot, and was read at the time that it names, if it names one; a later one names the boot.
+-- Each statement that was served was sent. The first of its transaction in a boot of the shard
+-- names no boot, and was read at the time that it names, if it names one; a later one names the
+-- boot.
 
 -- none of these is of the transaction, in the boot
 abbrev pub NoneOf : Tag → ℕ → List Served → Type 0

@@ -401,7 +401,8 @@ module _ (p : Part) (opens : Opens) (last : ℕ) (entries : List Entry)
     free : IsOpenLive
     anew : IsAnew p m at
     done : (reply : OpReply) (writes : List Write) (told : List Served) → ((x : Served)
-        → Among x served → Among x told) → IsKept p.boot told (rules.opened wall m at mine reply writes)
+        → Among x served → Among x told)
+        → IsKept p.boot told (rules.opened wall m at mine reply writes)
         → IsSound (with_writes m.tag p.store writes) (with_opened m.tag
         (Some (running p.boot at (opens m.tag) writes)) opens) last entries told
         → Holds opens (rules.with_open (rules.made_room p m mine) m
@@ -426,7 +427,10 @@ module _ (p : Part) (opens : Opens) (last : ℕ) (entries : List Entry)
           behind = (part.sound.opened m.tag (opened_of p.boot o) mine_is).reads;
           free = λ t found still. ap (λ (z : Session). z.state) (one_some (session p m.lsid) t s
               found is) ∙ live;
-          anew = (comes.alone, inr (o, there, (live_tag o s there is live).0 ∙ same, newer, boot, refl));
+          anew = (
+            comes.alone,
+            inr (o, there, (live_tag o s there is live).0 ∙ same, newer, boot, refl),
+          );
           done = λ reply writes told more kept sound.
               let x : Option Opened = Some (running p.boot o.read_at (opens m.tag) writes) in
               let new = with_opened m.tag x opens in
@@ -491,7 +495,8 @@ module _ (p : Part) (opens : Opens) (last : ℕ) (entries : List Entry)
         ∙ elsewhere_all m.lsid m.tag p.sessions.entries comes.alone other t away found one in cc
 
     done_new : (at : ℕ) (reply : OpReply) (writes : List Write) (told : List Served) → ((x : Served)
-        → Among x served → Among x told) → IsKept p.boot told (rules.opened wall m at None reply writes)
+        → Among x served → Among x told)
+        → IsKept p.boot told (rules.opened wall m at None reply writes)
         → IsSound (with_writes m.tag p.store writes) (with_opened m.tag
         (Some (running p.boot at (opens m.tag) writes)) opens) last entries told
         → (found : Option Open) → open_of p m.lsid ≡ found

@@ -1,5 +1,6 @@
 -- Nothing becomes live where transactions end.
-use Rattle.std.proofs.Common.{◌≡◌, ◌-◌, ℕ, Bool, true, false, List, [], ◌∷◌, Option, Some, None, refl}
+use Rattle.std.proofs.Common.{◌≡◌, ◌-◌, ℕ, Bool, true, false, List, [], ◌∷◌, Option, Some, None}
+use Rattle.std.proofs.Common.{refl}
 use Rattle.std.proofs.Common.{ap, ◌∙◌, sym, int_lt, nat_eq, nat_le, nat_lt, if◌then◌else◌}
 use Rattle.txn_types.specs.BySession.{entry_of}
 use Rattle.txn_types.specs.Clock.{ticked}

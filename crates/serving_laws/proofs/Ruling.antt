@@ -240,11 +240,13 @@ module _ (s : ShardState) (opens : Opens) (entries : List Entry) (served : List 
       record { holds = same; recorded = tt; none = none_same s.part; out = nothing IsSilent }
 
   tells_rests : (router : ℕ) (tag : Tag) (t : Told) → Rests (tells s router tag t)
-  tells_rests router tag t = record { holds = same; recorded = tt; none = none_same s.part; out = one IsSilent _ tt }
+  tells_rests router tag t =
+      record { holds = same; recorded = tt; none = none_same s.part; out = one IsSilent _ tt }
 
   asks_rests : (router : ℕ) (tag : Tag) (c : Coordinated) (d : Option Decision)
       → Rests (asks s router tag c d)
-  asks_rests router tag c None = record { holds = same; recorded = tt; none = none_same s.part; out = nothing IsSilent }
+  asks_rests router tag c None =
+      record { holds = same; recorded = tt; none = none_same s.part; out = nothing IsSilent }
   asks_rests router tag c (Some d) = tells_rests router tag (told_of d)
 
   coordinated_rests : (router : ℕ) (tag : Tag) (c : Option Coordinated) (other : Ruled)
@@ -301,7 +303,8 @@ module _ (s : ShardState) (opens : Opens) (entries : List Entry) (served : List 
       own own.state is refl) (tells_rests router m.tag _)
 
   votes_on_rests : (m : Vote) (c : Coordinated) (d : Option Decision) → Rests (votes_on s m c d)
-  votes_on_rests m c None = record { holds = same; recorded = tt; none = none_same s.part; out = nothing IsSilent }
+  votes_on_rests m c None =
+      record { holds = same; recorded = tt; none = none_same s.part; out = nothing IsSilent }
   votes_on_rests m c (Some d) =
       record {
         holds = same;

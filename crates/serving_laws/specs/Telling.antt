@@ -36,9 +36,9 @@ abbrev pub AnswersTo : Served → Msg → Type 0
 AnswersTo x (msg.Answer a) = IsAnswerOf x a
 AnswersTo x other = ⊥
 
--- In the boot that it names, a reply was told of a served statement of its transaction and place, at
--- that moment; the refusal of a statement by its meaning of one of its transaction, which it ended.
--- Other causes are told of none.
+-- In the boot that it names, a reply was told of a served statement of its transaction and place,
+-- at that moment; the refusal of a statement by its meaning of one of its transaction, which it
+-- ended. Other causes are told of none.
 
 abbrev pub RefusedThere : List Served → Answer → Cause → Type 0
 RefusedThere served a (cause.Statement err) = IsRefusedBy a.boot served a.tag err a.read_at
