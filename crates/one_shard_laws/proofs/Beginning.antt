@@ -1,6 +1,6 @@
 -- A statement that may begin is new: its transaction wrote nothing here in this boot, and has no
 -- commit.
-use Rattle.std.proofs.Common.{◌≡◌, ◌<ℤ◌, ◌≤ℤ◌, ◌&&◌, ◌++◌, ℕ, ℤ, Bool, true, false, List, [], ◌∷◌}
+use Rattle.std.proofs.Common.{◌≡◌, ◌<ℤ◌, ◌≤ℤ◌, ◌&&◌, ◌++◌, ℤ, Bool, true, false, List, [], ◌∷◌}
 use Rattle.std.proofs.Common.{Some, refl, ap, subst, ◌∙◌, arith, nat_eq, if◌then◌else◌}
 use Rattle.txn_types.specs.Order.{same_tag}
 use Rattle.txn_types.specs.declared.message.Statement.{Statement}
