@@ -1,6 +1,5 @@
 pub mod Lists
 pub mod Maps
 pub mod Sending
-pub mod Records
 pub mod Ruling
 pub mod Standing

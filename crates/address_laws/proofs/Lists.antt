@@ -1,5 +1,4 @@
--- What holds of each element of lists under keys. (Most of this stands in world_laws too, where it
--- can't be cited: its modules Naming, PartTimes and Lists aren't public.)
+-- What holds of each element of lists under keys, of numbers and of places.
 use Rattle.std.proofs.Common.{◌≡◌, ◌⊎◌, inl, inr, ◌<◌, ◌≤◌, ◌+◌, ℕ, suc, zero, Bool, true, false}
 use Rattle.std.proofs.Common.{cond, find, All, List, [], ◌∷◌, map, length, Option, Some, None}
 use Rattle.std.proofs.Common.{IfSome, option_map, refl, ap, subst, nat_eq, nat_lt, arith}
@@ -15,51 +14,7 @@ use Rattle.txn_types.specs.Order.{same_lsid}
 use Rattle.txn_types.specs.declared.node.Lsid.{Lsid}
 use Rattle.txn_semantics.specs.Keyed.{put, taken_out}
 use Rattle.participant.proofs.Cases.{either}
-
-pub one : {A : Type 0} (P : A → Type 0) (x : A) → P x → All P (x ∷ [])
-one P x h = All-cons P x [] h (All-nil P)
-
-pub each_of : {A B : Type 0} (Q : A → Type 0) (P : B → Type 0) (f : A → B)
-    → ((x : A) → Q x → P (f x)) → (xs : List A) → All Q xs → All P (map f xs)
-each_of {A = A} Q P f h xs k = All-map P f xs (All-weaker Q (λ (x : A). P (f x)) h xs k)
-
--- Under keys.
-
-put_by : {K A : Type 0} (cmp : K → K → Ordering) (Q : K × A → Type 0) (key : K) (a : A)
-    (row : K × A) (rows : List (K × A)) (o : Ordering)
-    → Q (key, a) → Q row → All Q rows → All Q (put cmp key a rows)
-    → All Q (elim o [
-      | Less ↦ (key, a) ∷ row ∷ rows
-      | Equal ↦ (key, a) ∷ rows
-      | Greater ↦ row ∷ put cmp key a rows
-    ])
-put_by cmp Q key a row rows Less new one more puts =
-    All-cons Q (key, a) (row ∷ rows) new (All-cons Q row rows one more)
-put_by cmp Q key a row rows Equal new one more puts = All-cons Q (key, a) rows new more
-put_by cmp Q key a row rows Greater new one more puts = All-cons Q row (put cmp key a rows) one puts
-
-pub put_all : {K A : Type 0} (cmp : K → K → Ordering) (Q : K × A → Type 0) (key : K) (a : A)
-    (rows : List (K × A)) → Q (key, a) → All Q rows → All Q (put cmp key a rows)
-put_all cmp Q key a [] new h = one Q (key, a) new
-put_all cmp Q key a (row ∷ rows) new h =
-    put_by cmp Q key a row rows (cmp key row.0) new (All-head Q row rows h) (All-tail Q row rows h)
-    (put_all cmp Q key a rows new (All-tail Q row rows h))
-
-taken_by : {K A : Type 0} (cmp : K → K → Ordering) (Q : K × A → Type 0) (key : K) (row : K × A)
-    (rows : List (K × A)) (o : Ordering)
-    → Q row → All Q rows → All Q (taken_out cmp key rows) → All Q (elim o
-    [ Less ↦ row ∷ rows | Equal ↦ rows | Greater ↦ row ∷ taken_out cmp key rows ])
-taken_by cmp Q key row rows Less one more takes = All-cons Q row rows one more
-taken_by cmp Q key row rows Equal one more takes = more
-taken_by cmp Q key row rows Greater one more takes =
-    All-cons Q row (taken_out cmp key rows) one takes
-
-pub taken_all : {K A : Type 0} (cmp : K → K → Ordering) (Q : K × A
-    → Type 0) (key : K) (rows : List (K × A)) → All Q rows → All Q (taken_out cmp key rows)
-taken_all cmp Q key [] h = h
-taken_all cmp Q key (row ∷ rows) h =
-    taken_by cmp Q key row rows (cmp key row.0) (All-head Q row rows h) (All-tail Q row rows h)
-    (taken_all cmp Q key rows (All-tail Q row rows h))
+use Rattle.world_laws.proofs.Naming.{one, each}
 
 -- what stands after the first key that a test takes
 found_by : {K A : Type 0} (R : A → Type 0) (entry : K × A) (more : Option (K × A))
@@ -118,22 +73,7 @@ range_all P bound from (suc count) fits h =
 
 -- Of places.
 
-pub get_set : {A : Type 0} (xs : List A) (i j : ℕ) (y x : A)
-    → slice_get (slice_set xs i y) j ≡ Some x → ((j ≡ i) × (y ≡ x)) ⊎ (slice_get xs j ≡ Some x)
-get_set [] i j y x e = inr e
-get_set (a ∷ xs) zero zero y x e = inl (refl, grind arith)
-get_set (a ∷ xs) zero (suc j) y x e = inr e
-get_set (a ∷ xs) (suc i) zero y x e = inr e
-get_set (a ∷ xs) (suc i) (suc j) y x e =
-    elim (get_set xs i j y x e) [ inl h ↦ inl (ap suc h.0, h.1) | inr h ↦ inr h ]
-
 pub set_length : {A : Type 0} (xs : List A) (i : ℕ) (y : A) → length (slice_set xs i y) ≡ length xs
 set_length [] i y = refl
 set_length (a ∷ xs) zero y = refl
 set_length (a ∷ xs) (suc i) y = ap suc (set_length xs i y)
-
-pub set_there : {A : Type 0} (xs : List A) (i : ℕ) (y x : A) → slice_get xs i ≡ Some x
-    → slice_get (slice_set xs i y) i ≡ Some y
-set_there [] i y x e = grind arith
-set_there (a ∷ xs) zero y x e = refl
-set_there (a ∷ xs) (suc i) y x e = set_there xs i y x e

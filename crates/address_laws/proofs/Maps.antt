@@ -28,8 +28,9 @@ use Rattle.chunk_map.specs.Place.{begins_by, shard_in, shard_of, rising, or_firs
 use Rattle.chunk_map.specs.Place.{shards_for}
 use Rattle.participant.proofs.Cases.{either}
 use Rattle.address_laws.specs.Addresses.{ShardsThere, MapThere}
-use Rattle.address_laws.proofs.Lists.{one, numbers_put, option_put, range_all}
+use Rattle.address_laws.proofs.Lists.{numbers_put, option_put, range_all}
 use Rattle.std.specs.List.{range_with_len}
+use Rattle.world_laws.proofs.Naming.{one}
 
 rising_all : (P : ℕ → Type 0) (ms : List ℕ) → All P ms → All P (rising ms)
 rising_all P [] h = All-nil P

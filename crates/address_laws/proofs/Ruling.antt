@@ -67,8 +67,9 @@ use Rattle.shard_core.specs.Core.{answer_stopped, says_stopped, gives_out, answe
 use Rattle.txn_types.specs.Letters.{given_out}
 use Rattle.address_laws.specs.Addresses.{PartsThere, NamesThere, LetterThere, EnvThere, EventThere}
 use Rattle.address_laws.specs.Addresses.{CoordinatedThere, PlansThere, BeginsThere}
-use Rattle.address_laws.proofs.Lists.{one, each_of, put_all, taken_all, found, numbers_put}
+use Rattle.address_laws.proofs.Lists.{found, numbers_put}
 use Rattle.address_laws.proofs.Sending.{letters_go}
+use Rattle.world_laws.proofs.Naming.{one, each_of, put_all, taken_all}
 
 abbrev Party : (NodeId → Type 0) → ℕ × ℕ → Type 0
 Party T part = T (Shard part.0)

@@ -81,8 +81,9 @@ use Rattle.address_laws.specs.Addresses.{ShardsThere, PartsThere, NamesThere, Le
 use Rattle.address_laws.specs.Addresses.{EventThere, PostThere, PostsThere, PhaseThere}
 use Rattle.address_laws.specs.Addresses.{TransactionThere, DoingThere, MapThere, SessionsThere}
 use Rattle.address_laws.specs.Addresses.{RouterThere}
-use Rattle.address_laws.proofs.Lists.{one, each_of, put_all, entries_put, entry_has, option_put}
+use Rattle.address_laws.proofs.Lists.{entries_put, entry_has, option_put}
 use Rattle.address_laws.proofs.Maps.{asked_there, each_there}
+use Rattle.world_laws.proofs.Naming.{one, each_of, put_all}
 
 abbrev At : (NodeId → Type 0) → ℕ → Type 0
 At T shard = T (Shard shard)

@@ -42,11 +42,12 @@ use Rattle.world_laws.proofs.Joint.{stands_step}
 use Rattle.address_laws.specs.Addresses.{IsThere, HasNode, EnvThere, EventThere, DoingThere}
 use Rattle.address_laws.specs.Addresses.{MapThere, RouterThere, CoordinatedThere, PlansThere}
 use Rattle.address_laws.specs.Addresses.{BeginsThere, NodeThere, AddressesStand}
-use Rattle.address_laws.proofs.Lists.{one, put_all, taken_all, found, get_set, set_length}
-use Rattle.address_laws.proofs.Lists.{set_there}
-use Rattle.address_laws.proofs.Records.{records_step}
+use Rattle.address_laws.proofs.Lists.{found, set_length}
+use Rattle.world_laws.proofs.Records.{records_step}
 use Rattle.address_laws.proofs.Sending.{router_sends}
 use Rattle.address_laws.proofs.Ruling.{step_there}
+use Rattle.world_laws.proofs.Naming.{one, put_all, taken_all, each}
+use Rattle.world_laws.proofs.Lists.{get_set, set_there, set_at}
 
 -- A shard's step.
 
@@ -217,11 +218,6 @@ router_at : (shards : ℕ) (nodes : Nodes) (n : ℕ) (r : RouterState) → slice
 router_at shards nodes n r there stands =
     subst (λ (k : ℕ). k < length nodes.routers) (sym (stands.begun n r there).own)
     (slice_get_within nodes.routers n r there)
-
-set_at : {A : Type 0} (xs ys : List A) (i : ℕ) (y x : A) → ys ≡ slice_set xs i y
-    → slice_get xs i ≡ Some x → slice_get ys i ≡ Some y
-set_at {A = A} xs ys i y x is there =
-    subst (λ (zs : List A). slice_get zs i ≡ Some y) (sym is) (set_there xs i y x there)
 
 pub addresses_step : (old : Nodes) (ran : Ran) (new : Nodes) → Happens old ran new → Stands old
     → AddressesStand old → AddressesStand new

@@ -1,5 +1,3 @@
-pub mod Lists
-pub mod Records
 pub mod Sessions
 pub mod Ruling
 pub mod Sending

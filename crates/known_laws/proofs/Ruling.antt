@@ -66,11 +66,11 @@ use Rattle.txn_types.specs.Letters.{Named, given_out, named_in}
 use Rattle.known_laws.specs.Known.{PartNamed, RecNamed, PartsKnown, AskedKnown, KnownTo}
 use Rattle.known_laws.specs.Known.{LetterKnown, EnvKnown, EventKnown, PlanKnown, PlansKnown}
 use Rattle.known_laws.specs.Known.{BeginsKnown, Answered}
-use Rattle.known_laws.proofs.Lists.{one, each, each_of, put_all, taken_all, found}
 use Rattle.known_laws.proofs.Sessions.{Moves, TurnMoves, Own, stays as part_stays, follows}
 use Rattle.known_laws.proofs.Sessions.{aborted_moves, statement_moves, expire_moves, memory_moves}
 use Rattle.known_laws.proofs.Sessions.{abort_moves, recover_moves, decide_moves, commit_moves}
 use Rattle.known_laws.proofs.Sessions.{prepare_moves}
+use Rattle.world_laws.proofs.Naming.{one, each, each_of, put_all, taken_all, found}
 
 -- what a rule leaves, records and sends
 pub record RuledKnown (P : Named → Type 0) (B : ℕ → ℕ → Named → Type 0) (s : ShardState)

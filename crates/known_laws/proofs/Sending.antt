@@ -93,8 +93,8 @@ use Rattle.world_laws.specs.Begins.{EntryNames, DoingNames, RouterNames}
 use Rattle.known_laws.specs.Known.{PartsKnown, ToldKnown, EnvKnown, LetterKnown, PostKnown}
 use Rattle.known_laws.specs.Known.{PostsKnown, AreTaken, has_refusal, PhaseKnown, TransactionKnown}
 use Rattle.known_laws.specs.Known.{DoingKnown, RouterKnown}
-use Rattle.known_laws.proofs.Lists.{one, each, each_of, put_all}
 use Rattle.known_laws.proofs.Sessions.{entries_put, entry_named}
+use Rattle.world_laws.proofs.Naming.{one, each, each_of, put_all}
 
 -- A name, in a session.
 abbrev N : Lsid → ℤ → Transaction → Named

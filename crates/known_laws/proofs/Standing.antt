@@ -62,11 +62,12 @@ use Rattle.known_laws.specs.Known.{ToldKnown, KnownTo, EnvKnown, EventKnown, Pla
 use Rattle.known_laws.specs.Known.{BeginsKnown, HasTag, Answered, PostKnown, PhaseKnown, DoingKnown}
 use Rattle.known_laws.specs.Known.{RouterKnown, Known, IsTold, Tells, NodeKnown, KnownStands}
 use Rattle.known_laws.specs.Known.{NamesNone}
-use Rattle.known_laws.proofs.Lists.{one, put_all, taken_all, found, get_set, set_at}
-use Rattle.known_laws.proofs.Records.{records_step}
+use Rattle.world_laws.proofs.Records.{records_step}
 use Rattle.known_laws.proofs.Ruling.{step_known}
 use Rattle.known_laws.proofs.Sending.{Fits, FitsAt, router_known}
 use Rattle.known_laws.proofs.Sessions.{Goes, entries_put, session_named}
+use Rattle.world_laws.proofs.Naming.{one, put_all, taken_all, found}
+use Rattle.world_laws.proofs.Lists.{get_set, set_at}
 
 -- What is said of boots and answers, where more is said of each.
 

@@ -47,44 +47,7 @@ use Rattle.participant.specs.Recover as rc
 use Rattle.participant.specs.Expiry.{expire, expire_all, lifetime}
 use Rattle.participant.specs.Memory.{ended_for_memory, ends_session, ends_own}
 use Rattle.participant.proofs.Cases.{either}
-
--- Under sessions. (These two stand in world_laws too, in a module that isn't public.)
-
-put_by : {K A : Type 0} (cmp : K → K → Ordering) (Q : K × A → Type 0) (key : K) (a : A)
-    (row : K × A) (rows : List (K × A)) (o : Ordering)
-    → Q (key, a) → Q row → All Q rows → All Q (put cmp key a rows)
-    → All Q (elim o [
-      | Less ↦ (key, a) ∷ row ∷ rows
-      | Equal ↦ (key, a) ∷ rows
-      | Greater ↦ row ∷ put cmp key a rows
-    ])
-put_by cmp Q key a row rows Less new one more puts =
-    All-cons Q (key, a) (row ∷ rows) new (All-cons Q row rows one more)
-put_by cmp Q key a row rows Equal new one more puts = All-cons Q (key, a) rows new more
-put_by cmp Q key a row rows Greater new one more puts = All-cons Q row (put cmp key a rows) one puts
-
-put_all : {K A : Type 0} (cmp : K → K → Ordering) (Q : K × A → Type 0) (key : K) (a : A)
-    (rows : List (K × A)) → Q (key, a) → All Q rows → All Q (put cmp key a rows)
-put_all cmp Q key a [] new h = All-cons Q (key, a) [] new (All-nil Q)
-put_all cmp Q key a (row ∷ rows) new h =
-    put_by cmp Q key a row rows (cmp key row.0) new (All-head Q row rows h) (All-tail Q row rows h)
-    (put_all cmp Q key a rows new (All-tail Q row rows h))
-
-taken_by : {K A : Type 0} (cmp : K → K → Ordering) (Q : K × A → Type 0) (key : K) (row : K × A)
-    (rows : List (K × A)) (o : Ordering)
-    → Q row → All Q rows → All Q (taken_out cmp key rows) → All Q (elim o
-    [ Less ↦ row ∷ rows | Equal ↦ rows | Greater ↦ row ∷ taken_out cmp key rows ])
-taken_by cmp Q key row rows Less one more takes = All-cons Q row rows one more
-taken_by cmp Q key row rows Equal one more takes = more
-taken_by cmp Q key row rows Greater one more takes =
-    All-cons Q row (taken_out cmp key rows) one takes
-
-taken_all : {K A : Type 0} (cmp : K → K → Ordering) (Q : K × A
-    → Type 0) (key : K) (rows : List (K × A)) → All Q rows → All Q (taken_out cmp key rows)
-taken_all cmp Q key [] h = h
-taken_all cmp Q key (row ∷ rows) h =
-    taken_by cmp Q key row rows (cmp key row.0) (All-head Q row rows h) (All-tail Q row rows h)
-    (taken_all cmp Q key rows (All-tail Q row rows h))
+use Rattle.world_laws.proofs.Naming.{put_all, taken_all}
 
 -- What holds of each live transaction.
 abbrev pub AllLive : (Open → Type 0) → Part → Type 0

@@ -38,7 +38,7 @@ use Rattle.world_laws.specs.Joint.{Stands}
 use Rattle.world_laws.proofs.Clocks.{started_is, each_set, each_same}
 use Rattle.world_laws.proofs.Joint.{stands_step}
 use Rattle.known_laws.specs.Known.{KnownStands}
-use Rattle.known_laws.proofs.Lists.{each}
+use Rattle.world_laws.proofs.Naming.{each}
 use Rattle.known_laws.proofs.Sessions.{entries_put}
 use Rattle.known_laws.proofs.Standing.{known_step, known_part}
 use Rattle.lost_laws.specs.Lost.{StateApart, PartApart, EnvApart, LostStands}

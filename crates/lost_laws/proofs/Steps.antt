@@ -55,7 +55,7 @@ use Rattle.shard_core.specs.Core.{Room, Ample, Scarce, Short, CoreStep, core_ste
 use Rattle.shard_core.specs.Core.{stays, entered, happened, scarce, running_step, stopped_step}
 use Rattle.shard_core.specs.Core.{answer_stopped, says_stopped, gives_out, answer_of}
 use Rattle.txn_types.specs.Letters.{given_out}
-use Rattle.known_laws.proofs.Lists.{one, each}
+use Rattle.world_laws.proofs.Naming.{one, each}
 use Rattle.lost_laws.specs.Lost.{Refuses, ToldApart, MsgApart, EnvApart, StateApart}
 use Rattle.lost_laws.specs.Lost.{PartApart}
 use Rattle.lost_laws.proofs.Causes.{Comes, TurnApart, state_apart, aborted_apart, by_boots}

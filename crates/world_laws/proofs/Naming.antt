@@ -5,7 +5,8 @@ use Rattle.std.proofs.Common.{arith}
 use Rattle.std.specs.Ordering.{is_eq}
 use Rattle.std.specs.declared.cmp.Ordering.{Ordering}
 use Rattle.std.specs.declared.cmp.Ordering.TheVariants.{Less, Equal, Greater}
-use Rattle.std.proofs.lemmas.List.Elements.{All-nil, All-cons, All-head, All-tail, All-append}
+use Rattle.std.proofs.lemmas.List.Elements.{All-nil, All-cons, All-head, All-tail, All-append, All-map}
+use Rattle.std.proofs.lemmas.List.Elements.{All-weaker}
 use Rattle.txn_types.specs.Order.{same_tag, tag_cmp}
 use Rattle.txn_types.specs.declared.cause.Cause.{Cause}
 use Rattle.txn_types.specs.declared.decision.Decision.{Decision}
@@ -122,6 +123,10 @@ pub each : {A B : Type 0} (P : B → Type 0) (f : A → B) (xs : List A) → ((x
     → All P (map f xs)
 each P f [] h = All-nil P
 each P f (x ∷ xs) h = All-cons P (f x) (map f xs) (h x) (each P f xs h)
+
+pub each_of : {A B : Type 0} (Q : A → Type 0) (P : B → Type 0) (f : A → B)
+    → ((x : A) → Q x → P (f x)) → (xs : List A) → All Q xs → All P (map f xs)
+each_of {A = A} Q P f h xs k = All-map P f xs (All-weaker Q (λ (x : A). P (f x)) h xs k)
 
 pub prepares_name : (P : Named → Type 0) (own : ℕ) (tag : Tag) (plan : Plan)
     → P (record { tag = tag; lsid = plan.lsid; number = plan.number }) → (parts : List Participant)
