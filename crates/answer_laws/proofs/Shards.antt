@@ -1,4 +1,4 @@
--- A shard sends no statement.
+-- A shard sends no statement and no commit.
 use Rattle.std.proofs.Common.{inl, inr, ℕ, ℤ, All, List, [], ◌∷◌, Option, Some, None, option_map}
 use Rattle.std.proofs.Common.{option_and_then, unwrap_or, is_some, Result, Err, nat_eq, sym, subst}
 use Rattle.std.proofs.lemmas.List.Elements.{All-nil, All-append, All-map}
@@ -52,9 +52,10 @@ use Rattle.shard_core.specs.NodeStep.{NodeState, ShardTakes}
 use Rattle.txn_types.specs.Letters.{given_out}
 use Rattle.answer_laws.proofs.Lists.{one, each}
 
--- no statement
+-- no statement and no commit
 abbrev pub Other : Msg → Type 0
 Other (msg.Statement m) = ⊥
+Other (msg.Commit m) = ⊥
 Other other = Unit {0}
 
 abbrev L : Letter → Type 0

@@ -30,15 +30,13 @@ use Rattle.router_rules.specs.Serving.{answered_in}
 use Rattle.router_rules.specs.Statements as st
 use Rattle.participant.proofs.Cases.{either}
 use Rattle.answer_laws.proofs.Lists.{nat_is, both_true}
+use Rattle.told_laws.proofs.Answering.{takes}
 use Rattle.told_laws.proofs.Taking.{none_wins}
 use Rattle.one_shard_laws.specs.Asking.{OneWrote}
 use Rattle.commit_laws.proofs.Follows.{Heard, Next, Asked, Follows, IsPast}
 use Rattle.commit_laws.proofs.Follows.{DeedFrom, DoingFollows}
 use Rattle.commit_laws.proofs.Deeds.{no_asks, none_twice, aborts_none, without_none, commits_from}
 use Rattle.commit_laws.proofs.Deeds.{deed_other, kept_from}
-
-abbrev pub takes : Answer → Transaction → Bool
-takes a t = same_tag t.tag a.tag && nat_eq a.k t.k && is_waited a.shard t.waiting
 
 -- Who wrote.
 

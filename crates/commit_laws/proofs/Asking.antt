@@ -1,29 +1,20 @@
 -- A statement that is asked goes to the one shard, or to none, and names the boot of the Answer to
 -- the one before it.
 use Rattle.std.proofs.Common.{◌≡◌, ◌⊎◌, inl, inr, ◌+◌, ℕ, ℤ}
-use Rattle.std.proofs.Common.{All, List, [], ◌∷◌, map, fold, Some, None}
-use Rattle.std.proofs.Common.{option_map, refl, sym, ap, subst, arith}
+use Rattle.std.proofs.Common.{All, List, [], ◌∷◌, map, fold}
+use Rattle.std.proofs.Common.{refl, sym, ap, subst, arith}
 use Rattle.std.specs.Ordering.{nat_cmp}
-use Rattle.std.specs.Prelude.{flat_map, filter_map}
 use Rattle.std.proofs.lemmas.List.Elements.{All-head, All-tail}
-use Rattle.txn_types.specs.Ids.{id_in}
 use Rattle.txn_types.specs.declared.message.Statement.{Statement}
 use Rattle.txn_types.specs.declared.names.Tag.{Tag}
 use Rattle.txn_types.specs.declared.node.Lsid.{Lsid}
 use Rattle.txn_types.specs.declared.node.NodeId.{NodeId}
 use Rattle.txn_types.specs.declared.node.NodeId.TheVariants.{Shard, Router}
-use Rattle.txn_types.specs.declared.operation.DeleteItem.{DeleteItem}
-use Rattle.txn_types.specs.declared.operation.InsertItem.{InsertItem}
-use Rattle.txn_types.specs.declared.operation.UpdateItem.{UpdateItem}
 use Rattle.txn_types.specs.declared.operation.Op.{Op}
-use Rattle.txn_types.specs.declared.operation.Op.TheVariants.{Insert, Find, Update, Delete}
 use Rattle.txn_semantics.specs.Keyed.{put}
-use Rattle.txn_semantics.specs.Touched.{Touched, id_test}
-use Rattle.chunk_map.specs.Map.{Map, IsMap, ranges_of}
-use Rattle.chunk_map.specs.declared.map.ChunkRow.{ChunkRow}
+use Rattle.chunk_map.specs.Map.{Map, IsMap}
 use Rattle.chunk_map.specs.Parts.{shards_of, part_at}
-use Rattle.chunk_map.specs.Place.{rising, or_first, shard_of, shards_by, shards_for}
-use Rattle.chunk_laws.proofs.Risen.{Rise, rising_rises}
+use Rattle.chunk_laws.proofs.Risen.{Rise}
 use Rattle.router_state.specs.declared.state.Asker.{Asker}
 use Rattle.router_state.specs.declared.state.Phase.TheVariants.{Asking}
 use Rattle.router_state.specs.declared.state.Transaction.{Transaction}
@@ -31,32 +22,10 @@ use Rattle.router_state.specs.State.{boot_of}
 use Rattle.router_state.specs.Shards.{with_shard}
 use Rattle.router_rules.specs.Statements as st
 use Rattle.address_laws.proofs.Maps.{asked_there}
+use Rattle.told_laws.proofs.Opening.{shards_rise}
 use Rattle.commit_laws.proofs.Follows.{Heard, Next, Asked}
 
 -- The shards of a statement.
-
-or_first_rises : (ns : List ℕ) → Rise ns → Rise (or_first ns)
-or_first_rises [] h = (tt, tt)
-or_first_rises (n ∷ ns) h = h
-
-by_rises : (m : Map) (ns : List ℕ) (touched : Touched) → Rise (shards_by m ns touched)
-by_rises m ns (Some ids) =
-    let shards = map (shard_of m ns) ids in
-    or_first_rises (rising shards) (rising_rises shards)
-by_rises m ns None =
-    let shards = map (λ (row : ChunkRow). row.shard) (ranges_of ns m.rows) in
-    or_first_rises (rising shards) (rising_rises shards)
-
-shards_rise : (m : Map) (op : Op) → Rise (shards_of m op)
-unfolding shards_of
-shards_rise m (Insert ns docs) =
-    rising_rises (filter_map (λ (item : InsertItem). option_map (shard_of m ns) (id_in item.doc))
-    docs)
-shards_rise m (Find ns wanted down limit) = by_rises m ns (id_test wanted)
-shards_rise m (Update ns items) =
-    rising_rises (flat_map (λ (item : UpdateItem). shards_for m ns item.filter) items)
-shards_rise m (Delete ns items) =
-    rising_rises (flat_map (λ (item : DeleteItem). shards_for m ns item.filter) items)
 
 abbrev IsFirst : NodeId → Type 0
 IsFirst (Shard n) = n ≡ 0

@@ -15,6 +15,7 @@ use Rattle.router_state.specs.declared.state.Phase.TheVariants.{Idle, Asking, Ch
 use Rattle.router_state.specs.declared.state.Phase.TheVariants.{Committed, Released, Aborted}
 use Rattle.router_state.specs.declared.state.Transaction.{Transaction}
 use Rattle.router_state.specs.State.{Post}
+use Rattle.answer_laws.proofs.Shards.{Other}
 use Rattle.one_shard_laws.specs.Asking.{OneWrote}
 use Rattle.commit_laws.specs.Speaking.{StatementFollows}
 
@@ -132,9 +133,7 @@ module _ (G H : Tag → ℕ → ℕ → Type 0) (f : Grows G H) where
 
 -- no statement and no commit
 abbrev pub IsNoAsk : Msg → Type 0
-IsNoAsk (msg.Statement m) = ⊥
-IsNoAsk (msg.Commit m) = ⊥
-IsNoAsk other = Unit {0}
+IsNoAsk m = Other m
 
 abbrev pub NoneAsk : List Post → Type 0
 NoneAsk posts = All (λ (post : Post). IsNoAsk post.1) posts

@@ -1,5 +1,5 @@
 -- What stands of all routers and of all that was sent is kept by a router's step.
-use Rattle.std.proofs.Common.{◌≡◌, ◌⊎◌, inl, inr, ◌+◌, ◌<◌, ◌++◌, ℕ, All, List, [], ◌∷◌, map}
+use Rattle.std.proofs.Common.{◌≡◌, ◌⊎◌, inl, inr, ◌<◌, ◌++◌, ℕ, All, List, [], ◌∷◌, map}
 use Rattle.std.proofs.Common.{length, Some, None, refl, sym, ap, subst, ◌∙◌, arith, zero}
 use Rattle.std.proofs.Common.{suc, false, true, ◌&&◌, nat_eq}
 use Rattle.std.specs.Prelude.{Contains, slice_get, slice_set}
@@ -34,7 +34,6 @@ use Rattle.router_core.proofs.Going.{step_on}
 use Rattle.cluster_core.specs.Answering.{Unanswered, with_answer, answered_among, unanswered_behind}
 use Rattle.cluster_core.specs.Answering.{opened, taken_what, taken_msg}
 use Rattle.cluster_core.specs.Nodes.{Nodes}
-use Rattle.cluster_core.specs.Parts.{WasDrawn}
 use Rattle.cluster_core.specs.Routers.{request_at}
 use Rattle.cluster_core.specs.Trace.{MayCome}
 use Rattle.answer_laws.proofs.Going.{some_same}
@@ -44,6 +43,7 @@ use Rattle.told_laws.proofs.Lists.{contained, set_cases}
 use Rattle.told_laws.proofs.Standing.{BookStands, RouterStands, DoingStands, PhaseStands, TxnStands}
 use Rattle.told_laws.proofs.Standing.{IsAsked, replied_if}
 use Rattle.told_laws.proofs.Moves.{IsOwn}
+use Rattle.told_laws.proofs.Opening.{not_drawn}
 use Rattle.told_laws.proofs.Booking.{same_tag_of}
 use Rattle.commit_laws.specs.Speaking.{Gave, StatementFollows, CommitFollows, MsgFollows}
 use Rattle.commit_laws.proofs.Follows.{Asked, Follows, DoingFollows, IsPast, IsNoAsk}
@@ -59,12 +59,6 @@ set_here : {A : Type 0} (xs : List A) (i : ℕ) (x y : A) → slice_get xs i ≡
 set_here [] i x y e = let no : None ≡ Some x = e in grind (arith, no)
 set_here (a ∷ xs) zero x y e = refl
 set_here (a ∷ xs) (suc i) x y e = set_here xs i x y e
-
-not_drawn : (r : RouterState) (tag : Tag) → tag ≡ next_tag r → WasDrawn r tag → ⊥
-not_drawn r tag e (inl h) = let same : tag.boot ≡ r.boot = ap (λ (t : Tag). t.boot) e in absurd
-    (omega (arith, h, same))
-not_drawn r tag e (inr h) = let same : tag.serial ≡ r.serial + 1 = ap (λ (t : Tag). t.serial) e in
-    absurd (omega (arith, h.1, same))
 
 -- a router's step, with what stood before it, and with the places of statements after it
 pub record Went (chunks : Map) (old new : Nodes) (n : ℕ) (r : RouterState) (e : NodeEvent)

@@ -5,7 +5,6 @@ pub mod Asking
 pub mod Answering
 pub mod Moves
 pub mod Requests
-pub mod Shards
 pub mod Standing
 pub mod Stepping
 pub mod Going

@@ -1,13 +1,11 @@
 -- What a request, a message of a shard, the end of a connection and a resend do at a router.
-use Rattle.std.proofs.Common.{◌≡◌, ◌⊎◌, inl, inr, ◌||◌, ℕ, ℤ, Bool, true, false, not}
+use Rattle.std.proofs.Common.{◌≡◌, ◌⊎◌, inl, inr, ℕ, ℤ, Bool, true, false, not}
 use Rattle.std.proofs.Common.{List, [], ◌∷◌, ◌++◌, map, Option, Some, None, Result, Ok, Err}
 use Rattle.std.proofs.Common.{refl, sym, ap, ap₂, subst, ◌∙◌, arith, if◌then◌else◌}
 use Rattle.std.specs.Prelude.{Contains, flat_map}
-use Rattle.std.specs.List.{list_any, range_with_len}
+use Rattle.std.specs.List.{range_with_len}
 use Rattle.std.specs.Ordering.{is_lt}
 use Rattle.std.proofs.lemmas.List.Elements.{All-contains, Contains-append_cases}
-use Rattle.txn_types.specs.BySession.{BySession, entry_of}
-use Rattle.txn_types.specs.Order.{same_lsid}
 use Rattle.txn_types.specs.declared.decision.Token.{Token}
 use Rattle.txn_types.specs.declared.decision.Token.TheVariants as token
 use Rattle.txn_types.specs.declared.event.Happening.{Happening}
@@ -20,7 +18,6 @@ use Rattle.txn_types.specs.declared.operation.Op.{Op}
 use Rattle.client_cmd.specs.declared.request.Request.{Request}
 use Rattle.client_cmd.specs.declared.request.Request.TheVariants as request
 use Rattle.client_cmd.specs.declared.request.Txn.{Txn}
-use Rattle.client_reply.specs.declared.reply.Refusal.TheVariants as refusal
 use Rattle.client_reply.specs.declared.reply.Reply.{Reply}
 use Rattle.client_reply.specs.declared.reply.Reply.TheVariants as reply
 use Rattle.op_msg.specs.Asking.{wants_reply, is_legacy}
@@ -52,17 +49,15 @@ use Rattle.router_plan.specs.declared.message.Unserved.TheVariants as un
 use Rattle.router_plan.specs.Messages.{asked_in}
 use Rattle.router_plan.specs.Plans.{told_also}
 use Rattle.router_plan.specs.Refusals.{begun_in, statement_refusal, commit_refusal, abort_refusal}
-use Rattle.router_plan.specs.Refusals.{too_old, busy, started, no_transaction, after_commit}
-use Rattle.router_plan.specs.Refusals.{too_long, too_many, spent, many_shards, known_aborted, is_so}
+use Rattle.router_plan.specs.Refusals.{is_so}
 use Rattle.router_plan.specs.Refusals.{is_elsewhere, is_aborted}
 use Rattle.router_core.specs.Requests as rq
 use Rattle.router_core.specs.Step as sp
 use Rattle.participant.proofs.Cases.{either}
-use Rattle.answer_laws.proofs.Beginning.{is_begun, first_none, so_not}
-use Rattle.answer_laws.proofs.Going.{first_is, rest_is, some_same}
+use Rattle.answer_laws.proofs.Beginning.{is_begun}
 use Rattle.answer_laws.proofs.Lists.{has_first, has_more}
 use Rattle.told_laws.proofs.Lists.{has_cases, map_has, only_one}
-use Rattle.told_laws.proofs.Moves.{done_there}
+use Rattle.told_laws.proofs.Moves.{done_there, not_waiting, Passes, passes}
 use Rattle.commit_laws.proofs.Once.{OnceUnder, put_once, stands_here}
 use Rattle.commit_laws.proofs.Follows.{Follows, DoingFollows, IsPast, IsNoAsk, NoneAsk, DeedFrom}
 use Rattle.commit_laws.proofs.Deeds.{no_asks, none_twice, leaves_none, commit_asked_from}
@@ -79,28 +74,6 @@ use Rattle.commit_laws.proofs.Moves.{ends_move, ends_follow, deed_kept, self_kep
 -- A statement that isn't refused is of a transaction in which nothing is asked, and whose commit
 -- wasn't sent.
 
-not_waiting : (conn : ℕ) (lsid : Lsid) (entries : BySession Session) (s : Session)
-    → list_any (λ (entry : Lsid × Session). is_from conn (asker_of entry.1.doing)) entries ≡ false
-    → entry_of lsid entries ≡ Some s → is_from conn (asker_of s.doing) ≡ false
-not_waiting conn lsid [] s h e = grind arith
-not_waiting conn lsid (entry ∷ entries) s h e =
-    let b = neither (is_from conn (asker_of entry.1.doing))
-    (list_any (λ (entry : Lsid × Session). is_from conn (asker_of entry.1.doing)) entries) h in
-    by (same_lsid lsid entry.0) refl b.0 (λ k. not_waiting conn lsid entries s b.1 k)
-  where
-    neither : (a b : Bool) → (a || b) ≡ false → (a ≡ false) × (b ≡ false)
-    neither true b e = grind arith
-    neither false b e = (refl, e)
-
-    by : (test : Bool) → same_lsid lsid entry.0 ≡ test
-        → is_from conn (asker_of entry.1.doing) ≡ false
-        → (entry_of lsid entries ≡ Some s → is_from conn (asker_of s.doing) ≡ false)
-        → is_from conn (asker_of s.doing) ≡ false
-    by true is here more =
-        let same : entry.1 ≡ s = some_same entry.1 s (sym (first_is lsid entry entries is) ∙ e) in
-        subst (λ (x : Session). is_from conn (asker_of x.doing) ≡ false) same here
-    by false is here more = more (sym (rest_is lsid entry entries is) ∙ e)
-
 idle_if : (conn : ℕ) (p : Phase) → is_elsewhere conn (asker_in p) ≡ false → commit_sent p ≡ false
     → is_aborted p ≡ false → is_from conn (asker_in p) ≡ false → p ≡ Idle
 idle_if conn Idle a b c d = refl
@@ -111,40 +84,6 @@ idle_if conn (Deciding asker) a b c d = grind (arith, b)
 idle_if conn Committed a b c d = grind (arith, b)
 idle_if conn Released a b c d = grind (arith, b)
 idle_if conn (Aborted sent) a b c d = grind (arith, c)
-
--- what no refusal leaves of it
-record Passes (conn : ℕ) (session : Option Session) (number : ℤ) : Type 0 where
-  elsewhere : is_so (λ (s : Session). is_elsewhere conn (asker_of s.doing)) session ≡ false
-  sent : is_so (λ (t : Transaction). commit_sent t.phase) (begun_in session number) ≡ false
-  aborted : is_so (λ (t : Transaction). is_aborted t.phase) (begun_in session number) ≡ false
-
-passes : (r : RouterState) (conn : ℕ) (session : Option Session) (txn : Txn) (op : Op)
-    → statement_refusal r conn session txn op ≡ None → Passes conn session txn.number
-unfolding statement_refusal
-passes r conn session txn op h =
-    let n = txn.number in
-    let last = many_shards r.chunks op ∷ known_aborted session n ∷ [] in
-    let behind = too_long session n ∷ too_many r session ∷ spent r session n ∷ last in
-    let rest = no_transaction session n txn.start false ∷ after_commit session n ∷ behind in
-    let a = first_none (too_old session n) (busy session conn ∷ started session txn ∷ rest) h in
-    let b = first_none (busy session conn) (started session txn ∷ rest) a.1 in
-    let c = first_none (started session txn) rest b.1 in
-    let d = first_none (no_transaction session n txn.start false) (after_commit session n ∷ behind)
-    c.1 in
-    let e = first_none (after_commit session n) behind d.1 in
-    let f = first_none (too_long session n) (too_many r session ∷ spent r session n ∷ last) e.1 in
-    let g = first_none (too_many r session) (spent r session n ∷ last) f.1 in
-    let i = first_none (spent r session n) last g.1 in
-    let j = first_none (many_shards r.chunks op) (known_aborted session n ∷ []) i.1 in
-    let k = first_none (known_aborted session n) [] j.1 in
-    record {
-      elsewhere = so_not (is_so (λ (s : Session). is_elsewhere conn (asker_of s.doing)) session)
-          refusal.Busy b.0;
-      sent = so_not (is_so (λ (t : Transaction). commit_sent t.phase) (begun_in session n))
-          refusal.AfterCommit e.0;
-      aborted = so_not (is_so (λ (t : Transaction). is_aborted t.phase) (begun_in session n))
-          refusal.Aborted k.0;
-    }
 
 is_idle : (r : RouterState) (conn : ℕ) (lsid : Lsid) (number : ℤ) (t : Transaction)
     → begun_in (session_of r lsid) number ≡ Some t → Passes conn (session_of r lsid) number

@@ -23,12 +23,12 @@ use Rattle.cluster_core.specs.Routers.{request_at}
 use Rattle.cluster_core.specs.Trace.{Happens, IsTrace, IsFresh, MayCome, RouterSteps, again}
 use Rattle.answer_laws.specs.Opened.{opened_at, opened_by, opened_from, opened_in}
 use Rattle.answer_laws.proofs.Lists.{set_same}
+use Rattle.answer_laws.proofs.Shards.{E, takes_gives}
 use Rattle.told_laws.proofs.Lists.{set_cases}
 use Rattle.told_laws.proofs.Standing.{BookStands}
-use Rattle.told_laws.proofs.Running.{Booked, all_booked}
+use Rattle.told_laws.proofs.Running.{Booked, all_booked, memory_state}
 use Rattle.commit_laws.specs.Speaking.{Gave, MsgFollows}
 use Rattle.commit_laws.proofs.Follows.{IsNoAsk}
-use Rattle.commit_laws.proofs.Shards.{takes_gives, E}
 use Rattle.commit_laws.proofs.Standing.{RouterStand, Stand, IsOld, quiet_stand, started_stands}
 use Rattle.commit_laws.proofs.Going.{step_stands}
 
@@ -81,10 +81,6 @@ same_routers : (chunks : Map) (old new : Nodes) → new.routers ≡ old.routers 
     (r : RouterState) → slice_get new.routers n ≡ Some r → IsOld chunks old n r
 same_routers chunks old new e n r at =
     inl (sym (ap (λ (rs : List RouterState). slice_get rs n) e) ∙ at)
-
-memory_state : (r : RouterState) (e : NodeEvent) → (sp.router_step true r e).state ≡ r
-unfolding sp.router_step
-memory_state r e = refl
 
 module _ (chunks : Map) (is : IsMap chunks) (one : chunks.shards ≡ 1) where
   -- a router's step, after which these places stand

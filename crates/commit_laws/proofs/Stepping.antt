@@ -1,11 +1,11 @@
 -- A router's step keeps what stands: what goes out a session waits for, and so it tells of what was
 -- answered; and no statement is opened after a commit.
 use Rattle.std.proofs.Common.{◌≡◌, inl, inr, ◌++◌, ◌&&◌, ℕ, Bool, true}
-use Rattle.std.proofs.Common.{false, not, List, [], ◌∷◌, map, filter, filter_map, length}
+use Rattle.std.proofs.Common.{false, List, [], ◌∷◌, map, filter, filter_map, length}
 use Rattle.std.proofs.Common.{nat_eq, is_some, Option, Some, None, Ok, refl, sym, ap, ap₂, subst}
 use Rattle.std.proofs.Common.{◌∙◌, arith}
 use Rattle.std.specs.Prelude.{Contains, IsOk}
-use Rattle.std.specs.List.{list_any, list_all}
+use Rattle.std.specs.List.{list_all}
 use Rattle.std.specs.Ordering.{nat_cmp}
 use Rattle.std.proofs.lemmas.List.Elements.{All-contains, Contains-append_left}
 use Rattle.std.proofs.lemmas.List.Elements.{Contains-append_right}
@@ -40,7 +40,7 @@ use Rattle.router_state.specs.State.{Post, RouterState, is_waited}
 use Rattle.router_rules.specs.Times.{walled}
 use Rattle.router_plan.specs.Spelling.{letter_of}
 use Rattle.router_core.specs.Step as sp
-use Rattle.cluster_core.specs.Answering.{Unanswered, is_for, with_answer, is_complete, all_say}
+use Rattle.cluster_core.specs.Answering.{Unanswered, with_answer, is_complete, all_say}
 use Rattle.cluster_core.specs.Answering.{meaning_in, read_at_of, answered_of, answered_among}
 use Rattle.cluster_core.specs.Answering.{opened, opened_by, statement_in}
 use Rattle.cluster_core.specs.Answering.{statements_in}
@@ -48,15 +48,13 @@ use Rattle.cluster_core.specs.Routers.{Asked as Request_}
 use Rattle.answer_laws.specs.Comes.{IsOfOne}
 use Rattle.answer_laws.proofs.Lists.{both_true, tag_is, nat_is, has_first, has_more}
 use Rattle.told_laws.proofs.Lists.{has_map, map_has, has_filter, only_one, has_cases}
-use Rattle.told_laws.proofs.Lists.{same_nat}
-use Rattle.told_laws.proofs.Opening.{nat_sym}
 use Rattle.told_laws.proofs.Quiet.{IsSettled}
 use Rattle.told_laws.proofs.Standing as sn
 use Rattle.told_laws.proofs.Standing.{AllReplied, BookStands, TxnStands, DoingStands, replied_if}
 use Rattle.commit_laws.specs.Speaking.{Gave, StatementFollows}
 use Rattle.commit_laws.proofs.Follows.{Heard, Next, Commits, MsgCommits, Follows}
 use Rattle.commit_laws.proofs.Follows.{IsPast}
-use Rattle.commit_laws.proofs.Answering.{takes}
+use Rattle.told_laws.proofs.Answering.{takes, for_asked, with_yes}
 
 -- What goes out.
 
@@ -244,38 +242,6 @@ module _ (G : Tag → ℕ → ℕ → Type 0) where
   statement_case t (Aborted sent) is h shard m c = none_waits t (shard, msg.Statement m) h c
 
 -- The Answer that comes was given for the statement that is asked.
-
-five_by : (s k l o : Bool) → (true && s && k && l && o) ≡ (s && k && (l && o))
-five_by true true l o = refl
-five_by true false l o = refl
-five_by false k l o = refl
-
-five : (r s k l o s' k' w : Bool) → r ≡ true → s ≡ s' → k ≡ k' → w ≡ (l && o)
-    → (r && s && k && l && o) ≡ (s' && k' && w)
-five r s k l o s' k' w er es ek ew =
-    ap (λ (x : Bool). x && s && k && l && o) er ∙ ap (λ (x : Bool). true && x && k && l && o) es ∙
-    ap (λ (x : Bool). true && s' && x && l && o) ek
-    ∙ five_by s' k' l o ∙ ap (λ (x : Bool). s' && k' && x) (sym ew)
-
-for_asked : (n : ℕ) (a : Answer) (begun us : List Unanswered) (told : List Answered)
-    (t : Transaction) (asker : Asker) (op : Op) (answers : List (ℕ × Answer))
-    (k : sn.Asked n begun us told t asker op answers)
-    → is_for n a k.statement ≡ takes a t
-for_asked n a begun us told t asker op answers k =
-    let u = k.statement in
-    five (nat_eq u.router n) (same_tag u.tag a.tag) (nat_eq u.k a.k)
-    (list_any (nat_eq a.shard) u.shards) (not (list_any (λ (other : ℕ × Answer). nat_eq other.0
-    a.shard) u.answers))
-    (same_tag t.tag a.tag) (nat_eq a.k t.k) (is_waited a.shard t.waiting)
-    (ap (λ (r : ℕ). nat_eq r n) k.router ∙ same_nat n)
-    (ap (λ (tag : Tag). same_tag tag a.tag) k.tag)
-    (ap (λ (m : ℕ). nat_eq m a.k) k.k ∙ nat_sym t.k a.k)
-    (k.waited a.shard ∙ ap (λ (rows : List (ℕ × Answer)). list_any (nat_eq a.shard) u.shards && not
-    (list_any (λ (other : ℕ × Answer). nat_eq other.0 a.shard) rows)) (sym k.answers_are))
-
-with_yes : (n : ℕ) (a : Answer) (u : Unanswered) → is_for n a u ≡ true
-    → with_answer n a u ≡ record u { answers = put nat_cmp a.shard a u.answers }
-with_yes n a u e = rw e refl
 
 module _ (sent more : List Envelope) (begun us : List Unanswered) (told : List Answered) (n : ℕ)
     (x : Envelope) (a : Answer) (t : Transaction) (asker : Asker) (op : Op)

@@ -1,6 +1,6 @@
 -- What a request does for requests in hand of other connections: their sessions stay as they are.
 -- And what one of a statement does for itself.
-use Rattle.std.proofs.Common.{◌≡◌, ◌⊎◌, inl, inr, ◌++◌, ◌&&◌, ◌+◌, ℕ, ℤ, Bool, true, false, not, All}
+use Rattle.std.proofs.Common.{◌≡◌, ◌⊎◌, inl, inr, ◌++◌, ◌&&◌, ℕ, ℤ, Bool, true, false, not, All}
 use Rattle.std.proofs.Common.{List, [], ◌∷◌, nat_eq, length, int_lt, is_none, Option, Some, None}
 use Rattle.std.proofs.Common.{is_some, nat_le, ◌-◌, ◌^◌, refl, sym, ap, subst, ◌∙◌, arith}
 use Rattle.std.specs.Ordering.{int_eq}
@@ -34,8 +34,8 @@ use Rattle.router_state.specs.declared.state.Phase.TheVariants.{Committed, Relea
 use Rattle.router_state.specs.declared.state.Seeking.{Seeking}
 use Rattle.router_state.specs.declared.state.Session.{Session}
 use Rattle.router_state.specs.declared.state.Transaction.{Transaction}
-use Rattle.router_state.specs.Deeds.{Move, still, answers, done_in, told, told_if, telling}
-use Rattle.router_state.specs.State.{Post, RouterState, session_of, asker_in, asker_of, is_from}
+use Rattle.router_state.specs.Deeds.{Move, still, answers, done_in, told}
+use Rattle.router_state.specs.State.{RouterState, session_of, asker_in, asker_of, is_from}
 use Rattle.router_state.specs.State.{is_own, commit_sent}
 use Rattle.router_state.specs.Shards.{writers, readers}
 use Rattle.router_rules.specs.Commits as co

@@ -1,6 +1,6 @@
 -- What the outcome of a commit, and the end of another connection, do for a request in hand.
-use Rattle.std.proofs.Common.{◌≡◌, ℕ, ℤ, Bool, true, false, List, [], ◌∷◌, nat_eq, length, Option}
-use Rattle.std.proofs.Common.{Some, None, refl, sym, ap, subst, ◌∙◌, arith, ◌&&◌}
+use Rattle.std.proofs.Common.{◌≡◌, ℕ, ℤ, Bool, true, false, List, [], ◌∷◌, nat_eq, Option}
+use Rattle.std.proofs.Common.{Some, None, refl, sym, ap, subst, ◌∙◌, ◌&&◌}
 use Rattle.txn_types.specs.Order.{same_tag}
 use Rattle.txn_types.specs.declared.decision.Told.{Told}
 use Rattle.txn_types.specs.declared.decision.Told.TheVariants as told_as
@@ -9,7 +9,6 @@ use Rattle.txn_types.specs.declared.names.Tag.{Tag}
 use Rattle.txn_types.specs.declared.node.Lsid.{Lsid}
 use Rattle.txn_semantics.specs.declared.commits.Answered.{Answered}
 use Rattle.client_reply.specs.declared.reply.Refusal.TheVariants as refusal
-use Rattle.client_reply.specs.declared.reply.Reply.{Reply}
 use Rattle.client_reply.specs.declared.reply.Reply.TheVariants as reply
 use Rattle.router_state.specs.declared.deed.Deed.{Deed}
 use Rattle.router_state.specs.declared.state.Asker.{Asker}
@@ -33,7 +32,6 @@ use Rattle.cluster_core.specs.Replying.{Hand}
 use Rattle.cluster_core.specs.Telling.{IsToldTo}
 use Rattle.answer_laws.proofs.Lists.{nat_is}
 use Rattle.told_laws.proofs.Opening.{nat_sym}
-use Rattle.reply_laws.proofs.Lists.{not_both}
 use Rattle.reply_laws.proofs.Hands.{Commits, EntryStands, Goes, told_done, told_plain, told_commit}
 use Rattle.reply_laws.proofs.Hands.{tells_goes, keeps_goes, drops_goes}
 

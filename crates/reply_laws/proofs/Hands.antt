@@ -1,9 +1,9 @@
 -- Which requests of statements connections have in hand, beside what a router's sessions wait for: a
 -- session that waits for the connection has the statement that the request asks, or the commit of a
 -- command by itself whose statement was answered.
-use Rattle.std.proofs.Common.{◌≡◌, ◌⊎◌, inl, inr, ◌++◌, ◌||◌, ◌&&◌, ℕ, ℤ, Bool, true, false, All, List}
-use Rattle.std.proofs.Common.{[], ◌∷◌, nat_eq, Option, Some, None, Ok, Err, refl, sym, ap, subst}
-use Rattle.std.proofs.Common.{◌∙◌, arith}
+use Rattle.std.proofs.Common.{◌≡◌, ◌⊎◌, inl, inr, ◌++◌, ◌||◌, ℕ, ℤ, Bool, true, false, All, List}
+use Rattle.std.proofs.Common.{[], nat_eq, Option, Some, None, Ok, Err, refl, sym, ap, subst}
+use Rattle.std.proofs.Common.{◌∙◌}
 use Rattle.std.specs.Prelude.{Contains, IsOk}
 use Rattle.std.specs.List.{list_any}
 use Rattle.std.proofs.lemmas.List.Elements.{All-nil, All-weaker, Contains-append_left}

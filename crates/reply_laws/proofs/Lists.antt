@@ -8,7 +8,6 @@ use Rattle.txn_types.specs.BySession.{BySession, entry_of, with_entry}
 use Rattle.txn_types.specs.Order.{same_lsid}
 use Rattle.txn_types.specs.declared.node.Lsid.{Lsid}
 use Rattle.router_state.specs.declared.deed.Deed.{Deed}
-use Rattle.router_state.specs.declared.state.Asker.{Asker}
 use Rattle.router_state.specs.declared.state.Session.{Session}
 use Rattle.router_state.specs.Deeds.{each_session}
 use Rattle.router_state.specs.State.{asker_of, is_from}

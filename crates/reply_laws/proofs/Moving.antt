@@ -1,14 +1,14 @@
 -- What an event does at a router for the requests in hand.
-use Rattle.std.proofs.Common.{◌≡◌, ◌⊎◌, inl, inr, ◌++◌, ◌||◌, ◌+◌, ℕ, ℤ, Bool, true, false, All, List}
+use Rattle.std.proofs.Common.{◌≡◌, inl, inr, ◌++◌, ◌||◌, ◌+◌, ℕ, ℤ, Bool, true, false, All, List}
 use Rattle.std.proofs.Common.{[]}
 use Rattle.std.proofs.Common.{◌∷◌, map, nat_eq, Option, Some, None, Result, Ok, Err, refl, sym, ap}
 use Rattle.std.proofs.Common.{subst, ◌∙◌, arith, if◌then◌else◌, not, ◌&&◌}
-use Rattle.std.specs.Prelude.{Contains, fold}
+use Rattle.std.specs.Prelude.{fold}
 use Rattle.std.proofs.lemmas.List.{append-nil}
 use Rattle.std.proofs.lemmas.List.Elements.{All-nil, All-cons, All-append, All-head, All-tail}
 use Rattle.std.proofs.lemmas.List.Elements.{All-weaker, All-contains}
 use Rattle.std.proofs.lemmas.List.Folds.{list_any-append}
-use Rattle.txn_types.specs.BySession.{BySession, with_entry}
+use Rattle.txn_types.specs.BySession.{BySession}
 use Rattle.txn_types.specs.declared.event.Happening.{Happening}
 use Rattle.txn_types.specs.declared.event.Happening.TheVariants as what
 use Rattle.txn_types.specs.declared.event.NodeAnswer.{NodeAnswer}
@@ -34,7 +34,7 @@ use Rattle.router_state.specs.declared.state.Phase.TheVariants.{Asking}
 use Rattle.router_state.specs.declared.state.Session.{Session}
 use Rattle.router_state.specs.declared.state.Transaction.{Transaction}
 use Rattle.router_state.specs.Deeds.{Move, still, told, each_session, in_each_session}
-use Rattle.router_state.specs.State.{Post, RouterState, session_of, asker_of, is_from, is_waiting}
+use Rattle.router_state.specs.State.{RouterState, asker_of, is_from, is_waiting}
 use Rattle.router_state.specs.Shards.{with_shard}
 use Rattle.router_rules.specs.Ends.{gone_from}
 use Rattle.router_rules.specs.Serving.{answered_in as takes_answer, ended_in}
@@ -48,19 +48,18 @@ use Rattle.router_core.specs.Step as sp
 use Rattle.cluster_core.specs.Answering.{Unanswered, with_answer, answered_among, statements_in}
 use Rattle.cluster_core.specs.Answering.{taken_msg, unanswered_behind}
 use Rattle.cluster_core.specs.Replying.{Hand, hand_by, hands_of, held_in, is_of, without_conn}
-use Rattle.cluster_core.specs.Routers.{Asked, asked_by, request_at}
+use Rattle.cluster_core.specs.Routers.{Asked, asked_by}
 use Rattle.answer_laws.proofs.Lists.{both_true, nat_is, one, entries_put}
 use Rattle.answer_laws.proofs.Sending.{parts_from, part_for, parts_are, skipped, told_by}
 use Rattle.told_laws.proofs.Lists.{contained, filter_has, same_nat}
-use Rattle.told_laws.proofs.Opening.{nat_sym}
 use Rattle.told_laws.proofs.Standing.{RouterStands, ListsStand}
 use Rattle.reply_laws.proofs.Asking.{EntryOf, ToIt, Spares, AsksNow, RefusesNow, AsksOrRefuses}
-use Rattle.reply_laws.proofs.Asking.{NamesClient, not_others, spares_still, spares_told, spares_now}
+use Rattle.reply_laws.proofs.Asking.{not_others, spares_still, spares_told, spares_now}
 use Rattle.reply_laws.proofs.Asking.{statement_now, others_spare}
 use Rattle.reply_laws.proofs.Ending.{ended_goes, gone_goes}
 use Rattle.reply_laws.proofs.Hands.{IsStatement, KeepsTo, IsPlaced, EntryStands, HandStands}
 use Rattle.reply_laws.proofs.Hands.{IfStatement, RouterHands, ReplyRight, replied_to, Goes, Moves}
-use Rattle.reply_laws.proofs.Hands.{HandMoves, entry_on, entries_on, hand_on, told_plain}
+use Rattle.reply_laws.proofs.Hands.{HandMoves, entry_on, entries_on, told_plain}
 use Rattle.reply_laws.proofs.Lists.{Once, visible, once_each, waits_in, put_waits_here, none_waits}
 use Rattle.reply_laws.proofs.Lists.{or_left, or_right, four_or, and_both, not_both}
 use Rattle.reply_laws.proofs.Reading.{NamesIn, asked_wants, asked_names}

@@ -30,7 +30,6 @@ use Rattle.client_cmd.specs.declared.error.CmdErr.{CmdErr}
 use Rattle.client_cmd.specs.declared.error.CmdErr.TheVariants.{Unacknowledged}
 use Rattle.client_cmd.specs.declared.request.Request.{Request}
 use Rattle.client_cmd.specs.declared.request.Request.TheVariants as request
-use Rattle.client_cmd.specs.declared.request.Txn.{Txn}
 use Rattle.participant.proofs.Cases.{either}
 use Rattle.router_plan.specs.Messages as messages
 use Rattle.router_state.specs.State.{is_own}

@@ -1,9 +1,8 @@
 -- What stands of the requests in hand is kept by each event, and each reply is told right.
-use Rattle.std.proofs.Common.{◌≡◌, inl, inr, ◌++◌, ◌&&◌, ◌||◌, ℕ, Bool, true, false, not, All, List}
+use Rattle.std.proofs.Common.{◌≡◌, inl, inr, ◌++◌, ℕ, Bool, true, false, not, All, List}
 use Rattle.std.proofs.Common.{[], ◌∷◌, filter, filter_map, find, nat_eq, Option, Some, None}
 use Rattle.std.proofs.Common.{option_map, refl, sym, ap, subst, ◌∙◌, arith}
-use Rattle.std.specs.Prelude.{Contains, slice_get, slice_set}
-use Rattle.std.specs.List.{list_any}
+use Rattle.std.specs.Prelude.{Contains, slice_get}
 use Rattle.std.proofs.lemmas.List.{append_assoc}
 use Rattle.std.proofs.lemmas.List.Elements.{All-nil, All-cons, All-append, All-weaker, All-filter}
 use Rattle.std.proofs.lemmas.List.Elements.{All-contains, All-head, All-tail}
@@ -43,9 +42,9 @@ use Rattle.answer_laws.proofs.Lists.{both_true, nat_is, one}
 use Rattle.told_laws.proofs.Lists.{contained, filter_has, set_cases}
 use Rattle.told_laws.proofs.Running.{Booked, step_booked, fresh_booked}
 use Rattle.told_laws.proofs.Standing.{BookStands, ListsStand, RouterStands}
-use Rattle.reply_laws.proofs.Hands.{IsStatement, HandStands, IfStatement, RouterHands, HandMoves}
+use Rattle.reply_laws.proofs.Hands.{IsStatement, IfStatement, RouterHands, HandMoves}
 use Rattle.reply_laws.proofs.Hands.{ReplyRight, replied_to, hand_on, right_on}
-use Rattle.reply_laws.proofs.Lists.{Once, found_passes, or_first, not_both}
+use Rattle.reply_laws.proofs.Lists.{found_passes, or_first}
 use Rattle.reply_laws.proofs.Moving.{HeldMoves, happened_held, here_is, hand_router}
 
 -- What is left in hand, and what was replied.

@@ -1,6 +1,6 @@
 -- What an Answer does for a request in hand: where it is the last, the reply is what the statement
 -- is answered.
-use Rattle.std.proofs.Common.{◌≡◌, inl, inr, ◌+◌, ◌++◌, ◌&&◌, ℕ, ℤ, Bool, true, false, not, List, []}
+use Rattle.std.proofs.Common.{◌≡◌, inl, inr, ◌++◌, ◌&&◌, ℕ, ℤ, Bool, true, false, not, List, []}
 use Rattle.std.proofs.Common.{◌∷◌, map, filter, filter_map, find, length, nat_eq, is_some, Option}
 use Rattle.std.proofs.Common.{Some, None, option_map, Result, Ok, Err, refl, sym, ap, ap₂, subst}
 use Rattle.std.proofs.Common.{◌∙◌, arith, if◌then◌else◌}
@@ -27,7 +27,6 @@ use Rattle.txn_semantics.specs.declared.commits.Answered.{Answered}
 use Rattle.client_cmd.specs.declared.request.Request.{Request}
 use Rattle.client_cmd.specs.declared.request.Request.TheVariants as request
 use Rattle.client_reply.specs.declared.reply.Reply.TheVariants as reply
-use Rattle.router_state.specs.declared.deed.Deed.{Deed}
 use Rattle.router_state.specs.declared.state.Asker.{Asker}
 use Rattle.router_state.specs.declared.state.Doing.{Doing}
 use Rattle.router_state.specs.declared.state.Doing.TheVariants.{Begun, Sought}
@@ -45,7 +44,7 @@ use Rattle.cluster_core.specs.Replying.{Hand}
 use Rattle.cluster_core.specs.Telling.{HasAnswered, IsOf, IsToldTo}
 use Rattle.answer_laws.proofs.Going.{some_same}
 use Rattle.answer_laws.proofs.Lists.{both_true}
-use Rattle.told_laws.proofs.Answering.{takes, with_opened, is_waited_for, answers_now, there_now}
+use Rattle.told_laws.proofs.Answering.{takes, with_opened, answers_now, there_now}
 use Rattle.told_laws.proofs.Answering.{count_now, complete_is}
 use Rattle.told_laws.proofs.Lists.{has_map, has_filter, same_nat}
 use Rattle.told_laws.proofs.Standing.{Asked, IsAsked, TxnStands, DoingStands, ListsStand}

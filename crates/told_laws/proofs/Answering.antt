@@ -211,7 +211,7 @@ five r s k l o s' k' w er es ek ew =
 abbrev pub takes : Answer → Transaction → Bool
 takes a t = same_tag t.tag a.tag && nat_eq a.k t.k && is_waited a.shard t.waiting
 
-for_asked : (n : ℕ) (a : Answer) (begun us : List Unanswered) (told : List Answered)
+pub for_asked : (n : ℕ) (a : Answer) (begun us : List Unanswered) (told : List Answered)
     (t : Transaction) (asker : Asker) (op : Op) (answers : List (ℕ × Answer))
     (k : Asked n begun us told t asker op answers)
     → is_for n a k.statement ≡ takes a t
@@ -230,7 +230,7 @@ for_asked n a begun us told t asker op answers k =
 with_not : (n : ℕ) (a : Answer) (u : Unanswered) → is_for n a u ≡ false → with_answer n a u ≡ u
 with_not n a u e = rw e refl
 
-with_yes : (n : ℕ) (a : Answer) (u : Unanswered) → is_for n a u ≡ true
+pub with_yes : (n : ℕ) (a : Answer) (u : Unanswered) → is_for n a u ≡ true
     → with_answer n a u ≡ record u { answers = put nat_cmp a.shard a u.answers }
 with_yes n a u e = rw e refl
 

@@ -314,7 +314,7 @@ abbrev pub MayAskOne : RouterState → ℕ → Op → Move → Type 0
 MayAskOne r conn op m = ((m.state ≡ r) × (m.given.sends ≡ []) × (m.given.aborts ≡ [])) ⊎ AsksOne r
     conn op m
 
-not_waiting : (conn : ℕ) (lsid : Lsid) (entries : BySession Session) (s : Session)
+pub not_waiting : (conn : ℕ) (lsid : Lsid) (entries : BySession Session) (s : Session)
     → list_any (λ (entry : Lsid × Session). is_from conn (asker_of entry.1.doing)) entries ≡ false
     → entry_of lsid entries ≡ Some s → is_from conn (asker_of s.doing) ≡ false
 not_waiting conn lsid [] s h e = grind arith
@@ -348,12 +348,12 @@ settled_if conn Released a b c d = grind (arith, b)
 settled_if conn (Aborted sent) a b c d = grind (arith, c)
 
 -- what no refusal leaves of it
-record Passes (conn : ℕ) (session : Option Session) (number : ℤ) : Type 0 where
-  elsewhere : is_so (λ (s : Session). is_elsewhere conn (asker_of s.doing)) session ≡ false
-  sent : is_so (λ (t : Transaction). commit_sent t.phase) (begun_in session number) ≡ false
-  aborted : is_so (λ (t : Transaction). is_aborted t.phase) (begun_in session number) ≡ false
+pub record Passes (conn : ℕ) (session : Option Session) (number : ℤ) : Type 0 where
+  pub elsewhere : is_so (λ (s : Session). is_elsewhere conn (asker_of s.doing)) session ≡ false
+  pub sent : is_so (λ (t : Transaction). commit_sent t.phase) (begun_in session number) ≡ false
+  pub aborted : is_so (λ (t : Transaction). is_aborted t.phase) (begun_in session number) ≡ false
 
-passes : (r : RouterState) (conn : ℕ) (session : Option Session) (txn : Txn) (op : Op)
+pub passes : (r : RouterState) (conn : ℕ) (session : Option Session) (txn : Txn) (op : Op)
     → statement_refusal r conn session txn op ≡ None → Passes conn session txn.number
 unfolding statement_refusal
 passes r conn session txn op h =

@@ -62,7 +62,7 @@ by_rises m ns None =
     let shards = map (λ (row : ChunkRow). row.shard) (ranges_of ns m.rows) in
     or_first_rises (rising shards) (rising_rises shards)
 
-shards_rise : (m : Map) (op : Op) → Rise (shards_of m op)
+pub shards_rise : (m : Map) (op : Op) → Rise (shards_of m op)
 unfolding shards_of
 shards_rise m (Insert ns docs) =
     rising_rises (filter_map (λ (item : InsertItem). option_map (shard_of m ns) (id_in item.doc))
@@ -149,7 +149,7 @@ idle_newest n r s lsid begun us told t h number boot rises i =
           absurd (grind (arith, no));
     }
 
-not_drawn : (r : RouterState) (tag : Tag) → tag ≡ next_tag r → WasDrawn r tag → ⊥
+pub not_drawn : (r : RouterState) (tag : Tag) → tag ≡ next_tag r → WasDrawn r tag → ⊥
 not_drawn r tag e (inl h) = let same : tag.boot ≡ r.boot = ap (λ (t : Tag). t.boot) e in absurd
     (omega (arith, h, same))
 not_drawn r tag e (inr h) = let same : tag.serial ≡ r.serial + 1 = ap (λ (t : Tag). t.serial) e in
