@@ -1,20 +1,16 @@
 -- What holds of each element of lists under keys, of numbers and of places.
-use Rattle.std.proofs.Common.{◌≡◌, ◌⊎◌, inl, inr, ◌<◌, ◌≤◌, ◌+◌, ℕ, suc, zero, Bool, true, false}
-use Rattle.std.proofs.Common.{cond, find, All, List, [], ◌∷◌, map, length, Option, Some, None}
-use Rattle.std.proofs.Common.{IfSome, option_map, refl, ap, subst, nat_eq, nat_lt, arith}
-use Rattle.std.specs.Prelude.{slice_get, slice_set}
+use Rattle.std.proofs.Common.{◌≡◌, ◌<◌, ◌≤◌, ◌+◌, ℕ, suc, zero, Bool, true, false, cond, find, All}
+use Rattle.std.proofs.Common.{List, [], ◌∷◌, length, Option, Some, None, IfSome, option_map, refl}
+use Rattle.std.proofs.Common.{ap, subst, nat_eq, nat_lt, arith}
+use Rattle.std.specs.Prelude.{slice_set}
 use Rattle.std.specs.List.{range_with_len, cons_option}
-use Rattle.std.specs.declared.cmp.Ordering.{Ordering}
-use Rattle.std.specs.declared.cmp.Ordering.TheVariants.{Less, Equal, Greater}
-use Rattle.std.proofs.lemmas.List.Elements.{All-nil, All-cons, All-head, All-tail, All-map}
-use Rattle.std.proofs.lemmas.List.Elements.{All-weaker}
-use Rattle.txn_types.specs.BySession.{BySession, with_entry, entry_of}
+use Rattle.std.proofs.lemmas.List.Elements.{All-nil, All-cons, All-head, All-tail}
+use Rattle.txn_types.specs.BySession.{BySession, entry_of}
 use Rattle.txn_types.specs.Numbers.{put_number}
 use Rattle.txn_types.specs.Order.{same_lsid}
 use Rattle.txn_types.specs.declared.node.Lsid.{Lsid}
-use Rattle.txn_semantics.specs.Keyed.{put, taken_out}
 use Rattle.participant.proofs.Cases.{either}
-use Rattle.world_laws.proofs.Naming.{one, each}
+use Rattle.world_laws.proofs.Naming.{one}
 
 -- what stands after the first key that a test takes
 found_by : {K A : Type 0} (R : A → Type 0) (entry : K × A) (more : Option (K × A))
@@ -34,15 +30,6 @@ found {K = K} {A = A} R test (entry ∷ entries) h a e =
     (found R test entries (All-tail (λ (e : K × A). R e.1) entry entries h) a) e
 
 -- Of sessions.
-
-pub entries_put : {A : Type 0} (R : Lsid × A → Type 0) (lsid : Lsid) (a : A) (entries : BySession A)
-    → R (lsid, a) → All R entries → All R (with_entry lsid a entries)
-entries_put R lsid a [] this h = one R (lsid, a) this
-entries_put R lsid a (entry ∷ entries) this h =
-    either (same_lsid lsid entry.0) (All R) _ _
-    (All-cons R (lsid, a) entries this (All-tail R entry entries h))
-    (All-cons R entry (with_entry lsid a entries) (All-head R entry entries h)
-    (entries_put R lsid a entries this (All-tail R entry entries h)))
 
 pub entry_has : {A : Type 0} (R : A → Type 0) (lsid : Lsid) (entries : BySession A)
     → All (λ (e : Lsid × A). R e.1) entries → (a : A) → entry_of lsid entries ≡ Some a → R a

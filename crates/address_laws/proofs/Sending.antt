@@ -10,7 +10,7 @@ use Rattle.std.proofs.lemmas.Bool.{ltb-true}
 use Rattle.std.proofs.lemmas.List.Elements.{All-nil, All-cons, All-head, All-tail, All-append}
 use Rattle.std.proofs.lemmas.List.Elements.{All-map, All-filter}
 use Rattle.txn_types.specs.BySession.{BySession}
-use Rattle.txn_types.specs.Letters.{Letter, sent_by}
+use Rattle.txn_types.specs.Letters.{Letter, sent_by, given_out}
 use Rattle.txn_types.specs.Order.{same_tag}
 use Rattle.txn_types.specs.declared.cause.Cause.{Cause}
 use Rattle.txn_types.specs.declared.decision.Told.{Told}
@@ -76,12 +76,12 @@ use Rattle.router_state.specs.declared.state.Seeking.{Seeking}
 use Rattle.router_state.specs.declared.state.Session.{Session}
 use Rattle.router_state.specs.declared.state.Transaction.{Transaction}
 use Rattle.participant.proofs.Cases.{either}
-use Rattle.txn_types.specs.Letters.{given_out}
 use Rattle.address_laws.specs.Addresses.{ShardsThere, PartsThere, NamesThere, LetterThere, EnvThere}
 use Rattle.address_laws.specs.Addresses.{EventThere, PostThere, PostsThere, PhaseThere}
 use Rattle.address_laws.specs.Addresses.{TransactionThere, DoingThere, MapThere, SessionsThere}
 use Rattle.address_laws.specs.Addresses.{RouterThere}
-use Rattle.address_laws.proofs.Lists.{entries_put, entry_has, option_put}
+use Rattle.world_laws.proofs.PartTimes.{entries_put}
+use Rattle.address_laws.proofs.Lists.{entry_has, option_put}
 use Rattle.address_laws.proofs.Maps.{asked_there, each_there}
 use Rattle.world_laws.proofs.Naming.{one, each_of, put_all}
 

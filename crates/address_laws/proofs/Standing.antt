@@ -3,8 +3,8 @@ use Rattle.std.proofs.Common.{◌≡◌, ◌⊎◌, inl, inr, ◌<◌, ◌++◌,
 use Rattle.std.proofs.Common.{Some, None, refl, sym, ap, subst, ◌∙◌}
 use Rattle.std.specs.Prelude.{slice_get, slice_set}
 use Rattle.std.proofs.lemmas.Option.{slice_get_within}
-use Rattle.std.proofs.lemmas.List.Elements.{All-nil, All-cons, All-head, All-tail, All-append}
-use Rattle.std.proofs.lemmas.List.Elements.{All-weaker, All-contains}
+use Rattle.std.proofs.lemmas.List.Elements.{All-nil, All-head, All-tail, All-append, All-weaker}
+use Rattle.std.proofs.lemmas.List.Elements.{All-contains}
 use Rattle.txn_types.specs.Order.{tag_cmp, same_tag}
 use Rattle.txn_types.specs.declared.decision.Decision.{Decision}
 use Rattle.txn_types.specs.declared.event.Happening.{Happening}
@@ -38,7 +38,7 @@ use Rattle.world_laws.specs.Clocks.{EachShard}
 use Rattle.world_laws.specs.Tags.{BeginsNamed}
 use Rattle.world_laws.specs.Joint.{Stands, NoName, DisksStand}
 use Rattle.world_laws.proofs.Clocks.{started_is, each_set, each_same}
-use Rattle.world_laws.proofs.Joint.{stands_step}
+use Rattle.world_laws.proofs.Joint.{stands_step, all_front}
 use Rattle.address_laws.specs.Addresses.{IsThere, HasNode, EnvThere, EventThere, DoingThere}
 use Rattle.address_laws.specs.Addresses.{MapThere, RouterThere, CoordinatedThere, PlansThere}
 use Rattle.address_laws.specs.Addresses.{BeginsThere, NodeThere, AddressesStand}
@@ -47,7 +47,7 @@ use Rattle.world_laws.proofs.Records.{records_step}
 use Rattle.address_laws.proofs.Sending.{router_sends}
 use Rattle.address_laws.proofs.Ruling.{step_there}
 use Rattle.world_laws.proofs.Naming.{one, put_all, taken_all, each}
-use Rattle.world_laws.proofs.Lists.{get_set, set_there, set_at}
+use Rattle.world_laws.proofs.Lists.{get_set, set_at}
 
 -- A shard's step.
 
@@ -302,11 +302,6 @@ addresses_run old (ran ∷ run) (nodes ∷ trace) new h s c =
 begins_none : (T : NodeId → Type 0) (r : Rec) → BeginsNamed NoName r → BeginsThere T r
 begins_none T (rec.CoordStart tag lsid number parts) h = absurd h
 begins_none T other h = tt
-
-all_front : {A : Type 0} (P : A → Type 0) (xs ys : List A) → All P (xs ++ ys) → All P xs
-all_front P [] ys h = All-nil P
-all_front P (x ∷ xs) ys h =
-    All-cons P x xs (All-head P x (xs ++ ys) h) (all_front P xs ys (All-tail P x (xs ++ ys) h))
 
 begins_front : (T : NodeId → Type 0) (number : ℕ) (recs : List Rec) (faults : ℕ) (n : NodeState)
     → started number recs faults ≡ Some n → All (BeginsNamed NoName) n.records

@@ -38,11 +38,12 @@ use Rattle.cluster_core.specs.Routers.{Asked, is_memory, request_at}
 use Rattle.cluster_core.specs.Trace.{Happens, IsTrace, MayCome}
 use Rattle.answer_laws.specs.Opened.{opened_at, opened_by, opened_from}
 use Rattle.answer_laws.specs.Comes.{IsGiven, as_opened, Comes, IsAnswered}
-use Rattle.answer_laws.proofs.Lists.{all_put, both_true, any_nat, tag_is, nat_is, all_true}
+use Rattle.answer_laws.proofs.Lists.{all_put, both_true, any_nat, nat_is, all_true}
+use Rattle.world_laws.proofs.Naming.{tag_is}
 
 -- More was sent, and more was opened.
 
-given_later : (sent more : List Envelope) (u : Unanswered) (x : ℕ × Answer) → IsGiven sent u x
+pub given_later : (sent more : List Envelope) (u : Unanswered) (x : ℕ × Answer) → IsGiven sent u x
     → IsGiven (sent ++ more) u x
 given_later sent more u x g = record {
   envelope = g.envelope;
@@ -55,7 +56,7 @@ given_later sent more u x g = record {
   k = g.k;
 }
 
-comes_later : (sent more : List Envelope) (begun after : List Unanswered) (u : Unanswered)
+pub comes_later : (sent more : List Envelope) (begun after : List Unanswered) (u : Unanswered)
     → Comes sent begun u → Comes (sent ++ more) (begun ++ after) u
 comes_later sent more begun after u c = record {
   opened = Contains-append_left begun after (as_opened u) c.opened;
@@ -63,14 +64,14 @@ comes_later sent more begun after u c = record {
       u.answers c.answers;
 }
 
-all_later : (sent more : List Envelope) (begun after us : List Unanswered)
+pub all_later : (sent more : List Envelope) (begun after us : List Unanswered)
     → All (Comes sent begun) us → All (Comes (sent ++ more) (begun ++ after)) us
 all_later sent more begun after us h = All-weaker (Comes sent begun) (Comes (sent ++ more)
     (begun ++ after)) (comes_later sent more begun after) us h
 
 -- An Answer that is taken.
 
-with_given : (sent : List Envelope) (begun : List Unanswered) (n : ℕ) (e : Envelope) (a : Answer)
+pub with_given : (sent : List Envelope) (begun : List Unanswered) (n : ℕ) (e : Envelope) (a : Answer)
     (u : Unanswered) (test : Bool) → Contains sent e → e.to ≡ Router n → e.msg ≡ msg.Answer a
     → is_for n a u ≡ test
     → Comes sent begun u → Comes sent begun (with_answer n a u)
@@ -114,7 +115,7 @@ with_given sent begun n e a u true there to is for c =
               }) _ all;
         }
 
-msg_taken : (sent : List Envelope) (begun : List Unanswered) (n : ℕ) (e : Envelope)
+pub msg_taken : (sent : List Envelope) (begun : List Unanswered) (n : ℕ) (e : Envelope)
     (m : Msg) (us : List Unanswered) → Contains sent e → e.to ≡ Router n → e.msg ≡ m
     → All (Comes sent begun) us → All (Comes sent begun) (taken_msg n m us)
 msg_taken sent begun n e (msg.Answer a) us there to is h =
@@ -123,7 +124,7 @@ msg_taken sent begun n e (msg.Answer a) us there to is h =
     (λ u c. with_given sent begun n e a u (is_for n a u) there to is refl c) us h)
 msg_taken sent begun n e other us there to is h = h
 
-taken : (sent : List Envelope) (begun : List Unanswered) (n : ℕ) (w : Happening)
+pub taken : (sent : List Envelope) (begun : List Unanswered) (n : ℕ) (w : Happening)
     (us : List Unanswered) → MayCome sent (Router n) w → All (Comes sent begun) us
     → All (Comes sent begun) (taken_what n w us)
 taken sent begun n (what.Deliver e) us may h = msg_taken sent begun n e e.msg us may.0 may.1 refl h
@@ -133,15 +134,15 @@ taken sent begun n other us may h = h
 
 -- What is opened.
 
-abbrev IsNew : Unanswered → Type 0
+abbrev pub IsNew : Unanswered → Type 0
 IsNew u = u.answers ≡ []
 
-new_parts : (n conn : ℕ) (op : Op) (parts : List (ℕ × Statement))
+pub new_parts : (n conn : ℕ) (op : Op) (parts : List (ℕ × Statement))
     → All IsNew (opened_parts n conn op parts)
 new_parts n conn op [] = All-nil IsNew
 new_parts n conn op (part ∷ parts) = All-cons IsNew _ [] refl (All-nil IsNew)
 
-all_new : (n : ℕ) (asked : Option Asked) (a : NodeAnswer) → All IsNew (opened n asked a)
+pub all_new : (n : ℕ) (asked : Option Asked) (a : NodeAnswer) → All IsNew (opened n asked a)
 all_new n None a = All-nil IsNew
 all_new n (Some (conn, request.Ping more time)) a = All-nil IsNew
 all_new n (Some (conn, request.Hello old_name more time)) a = All-nil IsNew
@@ -151,7 +152,7 @@ all_new n (Some (conn, request.Commit txn t more time)) a = All-nil IsNew
 all_new n (Some (conn, request.Abort txn more time)) a = All-nil IsNew
 all_new n (Some (conn, request.EndSessions ids more time)) a = All-nil IsNew
 
-new_comes : (sent : List Envelope) (begun new : List Unanswered) (u : Unanswered) → IsNew u
+pub new_comes : (sent : List Envelope) (begun new : List Unanswered) (u : Unanswered) → IsNew u
     → Contains new u → Comes sent (begun ++ new) u
 new_comes sent begun new u is there =
     let same : u ≡ as_opened u =
@@ -243,7 +244,7 @@ entered_if sent more begun l n (Some r) e a may h =
     (entered_at l n r e a) (passed_on sent more begun (opened n (request_at r e a) a) l h)
     (went sent more begun l n r e a may h)
 
-swapped_on : (sent : List Envelope) (begun : List Unanswered) (l : Ledger)
+pub swapped_on : (sent : List Envelope) (begun : List Unanswered) (l : Ledger)
     (n : ℕ) (r : Option RouterState) → All (Comes sent begun) l.unanswered
     → All (Comes sent begun) (swapped l n r).unanswered
 swapped_on sent begun l n None h = h
@@ -281,7 +282,7 @@ ran_went old (Swapped (Shard n)) new begun l h k =
 
 -- A run.
 
-sent_more : (old : Nodes) (ran : Ran) (new : Nodes) → Happens old ran new
+pub sent_more : (old : Nodes) (ran : Ran) (new : Nodes) → Happens old ran new
     → (out : List Envelope) × (new.sent ≡ old.sent ++ out)
 sent_more old (Step (Router n) e a faults) new h = (_, ap (λ (w : Nodes). w.sent) h.nodes)
 sent_more old (Step (Shard n) e a faults) new h = (_, ap (λ (w : Nodes). w.sent) h.nodes)
@@ -290,7 +291,7 @@ sent_more old (Swapped (Router n)) new h =
 sent_more old (Swapped (Shard n)) new h =
     ([], ap (λ (w : Nodes). w.sent) h.nodes ∙ sym (append-nil old.sent))
 
-run_sent : (old : Nodes) (run : List Ran) (trace : List Nodes) (new : Nodes)
+pub run_sent : (old : Nodes) (run : List Ran) (trace : List Nodes) (new : Nodes)
     → IsTrace old run trace new → (out : List Envelope) × (new.sent ≡ old.sent ++ out)
 run_sent old [] [] new h = ([], ap (λ (w : Nodes). w.sent) h ∙ sym (append-nil old.sent))
 run_sent old [] (nodes ∷ trace) new h = absurd h

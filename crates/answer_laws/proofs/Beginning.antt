@@ -2,17 +2,15 @@
 -- request; and sessions go on.
 use Rattle.std.proofs.Common.{◌≡◌, ◌⊎◌, inl, inr, ◌<ℤ◌, ℕ, ℤ, Bool, true, false, not, ◌&&◌, All}
 use Rattle.std.proofs.Common.{List, [], ◌∷◌, ◌++◌, map, int_lt, int_eq, is_none, Option, Some, None}
-use Rattle.std.proofs.Common.{Result, Ok, Err, refl, sym, ap, ap₂, subst, ◌∙◌, arith, if◌then◌else◌}
+use Rattle.std.proofs.Common.{Result, Ok, Err, refl, sym, ap, subst, ◌∙◌, arith, if◌then◌else◌}
 use Rattle.std.specs.Prelude.{flat_map}
 use Rattle.std.specs.List.{range_with_len}
 use Rattle.std.specs.Ordering.{is_lt}
-use Rattle.std.proofs.lemmas.Int.{ints, by_lt_z}
-use Rattle.std.proofs.lemmas.Bool.Decides.{Decides-int_eq}
 use Rattle.std.proofs.lemmas.List.Elements.{All-nil, All-cons, All-head, All-tail, All-append}
 use Rattle.std.proofs.lemmas.List.Elements.{All-map}
 use Rattle.txn_types.specs.BySession.{BySession, entry_of}
 use Rattle.txn_types.specs.Order.{same_lsid}
-use Rattle.txn_types.specs.Letters.{Letter, sent_by}
+use Rattle.txn_types.specs.Letters.{Letter, sent_by, given_out}
 use Rattle.txn_types.specs.declared.decision.Token.{Token}
 use Rattle.txn_types.specs.declared.decision.Token.TheVariants as token
 use Rattle.txn_types.specs.declared.event.Happening.{Happening}
@@ -24,14 +22,11 @@ use Rattle.txn_types.specs.declared.message.Msg.TheVariants as msg
 use Rattle.txn_types.specs.declared.node.Lsid.{Lsid}
 use Rattle.txn_types.specs.declared.node.NodeId.TheVariants.{Router}
 use Rattle.txn_types.specs.declared.operation.Op.{Op}
-use Rattle.txn_semantics.specs.Touched.{first_some}
 use Rattle.client_cmd.specs.declared.request.Request.{Request}
 use Rattle.client_cmd.specs.declared.request.Request.TheVariants as request
 use Rattle.client_cmd.specs.declared.request.Txn.{Txn}
-use Rattle.client_reply.specs.declared.reply.Refusal.{Refusal}
 use Rattle.client_reply.specs.declared.reply.Refusal.TheVariants as refusal
 use Rattle.client_reply.specs.declared.reply.Reply.{Reply}
-use Rattle.client_reply.specs.declared.reply.Reply.TheVariants.{TooOld}
 use Rattle.op_msg.specs.Asking.{wants_reply}
 use Rattle.router_state.specs.declared.deed.Deed.{Deed}
 use Rattle.router_state.specs.declared.state.Asker.{Asker}
@@ -54,69 +49,29 @@ use Rattle.router_plan.specs.Messages.{asked_in}
 use Rattle.router_plan.specs.Plans.{told_also}
 use Rattle.router_plan.specs.Refusals.{begun_in, statement_refusal, commit_refusal, abort_refusal}
 use Rattle.router_plan.specs.Refusals.{too_old, busy, started, no_transaction, after_commit}
-use Rattle.router_plan.specs.Refusals.{too_long, too_many, spent, many_shards, known_aborted}
-use Rattle.router_plan.specs.Refusals.{where_so, is_so}
+use Rattle.router_plan.specs.Refusals.{too_long, too_many, spent, many_shards, known_aborted, is_so}
 use Rattle.router_plan.specs.Spelling.{letter_of}
 use Rattle.router_core.specs.Requests as rq
 use Rattle.router_core.specs.Step as sp
 use Rattle.shard_image.proofs.Sessions.{entry_there}
 use Rattle.participant.proofs.Cases.{either}
-use Rattle.txn_types.specs.Letters.{given_out}
 use Rattle.txn_types.specs.declared.message.Statement.{Statement}
 use Rattle.answer_laws.proofs.Fits.{PostFits, AllFit, DoingFits, EntryFits, RouterFits, GoesOn}
 use Rattle.answer_laws.proofs.Fits.{DeedFits, AllGo, MoveFits, AskFits, AskedFits, Unless}
 use Rattle.answer_laws.proofs.Fits.{HappenedFits, EventFits, Asks, NoStatement}
 use Rattle.answer_laws.specs.Parts.{SentTo, SentFit}
-use Rattle.answer_laws.proofs.Lists.{one, each}
+use Rattle.world_laws.proofs.Naming.{one, each}
 use Rattle.answer_laws.proofs.Deeds.{Own, both_name, own_deed, asks_name, leaves_name, leaves_any}
 use Rattle.answer_laws.proofs.Deeds.{commit_asked_names, client_aborts_name, answered_names}
 use Rattle.answer_laws.proofs.Deeds.{ended_names, gone_names, session_names, stays_names}
 use Rattle.answer_laws.proofs.Deeds.{seeks_in_names, anew_given}
-use Rattle.answer_laws.proofs.Going.{first_is, rest_is, some_same, all_self, all_then, done_names}
-use Rattle.answer_laws.proofs.Going.{in_each_names}
+use Rattle.world_laws.proofs.Going.{first_is, rest_is, some_same}
+use Rattle.answer_laws.proofs.Going.{all_self, all_then, done_names, in_each_names}
+use Rattle.world_laws.proofs.Beginning.{four_none, so_not, not_lower, same_unless, lower_if}
+use Rattle.world_laws.proofs.Beginning.{start_above, commit_above, there, is, number_is, doing}
+use Rattle.world_laws.proofs.Beginning.{is_begun, is_session}
 
 -- What refusals leave.
-
-pub first_none : (o : Option Reply) (os : List (Option Reply)) → first_some (o ∷ os) ≡ None
-    → (o ≡ None) × (first_some os ≡ None)
-first_none None os h = (refl, h)
-first_none (Some r) os h = grind arith
-
-four_none : (a b c d : Option Reply) (os : List (Option Reply))
-    → first_some (a ∷ b ∷ c ∷ d ∷ os) ≡ None → (a ≡ None) × (c ≡ None) × (d ≡ None)
-four_none a b c d os h =
-    let x = first_none a (b ∷ c ∷ d ∷ os) h in
-    let y = first_none b (c ∷ d ∷ os) x.1 in
-    let z = first_none c (d ∷ os) y.1 in
-    (x.0, z.0, (first_none d os z.1).0)
-
-pub so_not : (b : Bool) (why : Refusal) → where_so b why ≡ None → b ≡ false
-so_not true why h = grind arith
-so_not false why h = refl
-
-not_lower : (n : ℤ) (old : Session) → too_old (Some old) n ≡ None → int_lt n old.number ≡ false
-not_lower n old h = by (int_lt n old.number) refl
-  where
-    by : (b : Bool) → int_lt n old.number ≡ b → b ≡ false
-    by true e = let bad : Some (TooOld n old.number) ≡ None = ap (λ (c : Bool). if c
-        then Some (TooOld n old.number) else None) (sym e) ∙ h in grind (arith, bad)
-    by false e = refl
-
-below_unless : (a n : ℤ) → int_lt n a ≡ false → int_eq a n ≡ false → a <ℤ n
-below_unless a n h k = by_lt_z a n (λ lt. lt) (λ le. let same : a ≡ n =
-    omega (arith, ints, h, le) in let yes : int_eq a n ≡ true = (Decides-int_eq a n).1 same in
-    let bad : true ≡ false = sym yes ∙ k in grind (arith, bad))
-
-same_unless : (a n : ℤ) → int_lt n a ≡ false → int_lt a n ≡ false → a ≡ n
-same_unless a n h k = omega (arith, ints, h, k)
-
-lower_if : (a n : ℤ) → int_lt a n ≡ true → a <ℤ n
-lower_if a n h = omega (arith, ints, h)
-
-start_above : (old : Session) (n : ℤ) (start : Bool) → int_lt n old.number ≡ false
-    → (start && int_eq old.number n) ≡ false → not start ≡ false → old.number <ℤ n
-start_above old n true lower same none = below_unless old.number n lower same
-start_above old n false lower same none = grind arith
 
 -- a statement that isn't refused, of a transaction that its session hasn't begun, is above the
 -- session's number
@@ -139,14 +94,6 @@ fresh_if s conn session txn op h none old is =
     ap (λ (o : Option Transaction). is_none o && not txn.start) (sym none) ∙ so_not (is_none
     (begun_in session n) && not txn.start) (refusal.NoTransaction n false) f.2 in
     start_above old txn.number txn.start lower same starts
-
--- a commit that isn't refused is of no lower number
-commit_above : (s : RouterState) (conn : ℕ) (session : Option Session) (txn : Txn)
-    (t : Option Token) → commit_refusal s conn session txn t ≡ None → (old : Session)
-    → session ≡ Some old → int_lt txn.number old.number ≡ false
-unfolding commit_refusal
-commit_above s conn session txn t h old is = not_lower txn.number old
-    (ap (λ (o : Option Session). too_old o txn.number) (sym is) ∙ (first_none _ _ h).0)
 
 -- Sessions of a router.
 
@@ -172,38 +119,6 @@ entry_named Q lsid [] s h e = grind arith
 entry_named Q lsid (entry ∷ entries) s h e =
     entry_case Q lsid entry entries s (All-head (EntryFits Q) entry entries h) (entry_named Q lsid
     entries s (All-tail (EntryFits Q) entry entries h)) (same_lsid lsid entry.0) refl e
-
-begun_if : (own number : ℤ) (u t : Transaction) (test : Bool) → int_eq own number ≡ test
-    → (if test then Some u else None) ≡ Some t → (own ≡ number) × (Begun u ≡ Begun t)
-begun_if own number u t true is e = ((Decides-int_eq own number).0 is, ap Begun (some_same u t e))
-begun_if own number u t false is e = grind arith
-
-not_sought : (test : Bool) (t : Transaction) → (if test then None else None) ≡ Some t → ⊥
-not_sought true t e = grind arith
-not_sought false t e = grind arith
-
-begun_doing : (own number : ℤ) (doing : Doing) (t : Transaction)
-    → begun_in (Some (record { number = own; doing = doing })) number ≡ Some t
-    → (own ≡ number) × (doing ≡ Begun t)
-begun_doing own number (Begun u) t e = begun_if own number u t (int_eq own number) refl e
-begun_doing own number (Sought seeking known) t e = absurd (not_sought (int_eq own number) t e)
-
--- a transaction that was begun in a session
-pub record IsBegun (session : Option Session) (number : ℤ) (t : Transaction) : Type 0 where
-  pub there : Session
-  pub is : session ≡ Some there
-  pub number_is : there.number ≡ number
-  pub doing : there.doing ≡ Begun t
-
-pub is_begun : (session : Option Session) (number : ℤ) (t : Transaction)
-    → begun_in session number ≡ Some t → IsBegun session number t
-is_begun None number t e = grind arith
-is_begun (Some s) number t e = let b = begun_doing s.number number s.doing t e in
-    record { there = s; is = refl; number_is = b.0; doing = b.1 }
-
-is_session : (there : Session) (number : ℤ) (t : Transaction) → there.number ≡ number
-    → there.doing ≡ Begun t → there ≡ record { number = number; doing = Begun t }
-is_session there number t a b = ap₂ (λ (n : ℤ) (d : Doing). record { number = n; doing = d }) a b
 
 -- what is done with a transaction that was begun
 own_done : (Q : ℕ → Statement → Type 0) (r : RouterState) (lsid : Lsid) (number : ℤ)

@@ -39,7 +39,7 @@ use Rattle.router_rules.specs.Tokens as tk
 use Rattle.participant.proofs.Cases.{either}
 use Rattle.txn_types.specs.declared.message.Statement.{Statement}
 use Rattle.answer_laws.proofs.Fits.{PostFits, AllFit, DoingFits, GivenFit, SameDoing, DeedFits}
-use Rattle.answer_laws.proofs.Lists.{one, each}
+use Rattle.world_laws.proofs.Naming.{one, each}
 
 abbrev pub BegunAs : (ℕ → Statement → Type 0) → Tag → ℕ → Doing → Type 0
 BegunAs Q tag k (Begun t) = (t.tag ≡ tag) × (k ≤ t.k) × AllFit Q t.waiting

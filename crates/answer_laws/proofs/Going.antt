@@ -1,9 +1,8 @@
 -- Sessions go on: numbers rise, and a transaction that was begun stays until its session's number
 -- rises.
-use Rattle.std.proofs.Common.{◌≡◌, ◌⊎◌, inl, inr, ◌<ℤ◌, ℤ, Bool, true, false, cond, [], ◌∷◌, find}
-use Rattle.std.proofs.Common.{option_map, Some, All, refl, sym, ap, subst, ◌∙◌, arith, ℕ}
+use Rattle.std.proofs.Common.{◌≡◌, ◌⊎◌, inl, inr, ◌<ℤ◌, ℤ, Bool, true, false, [], ◌∷◌, Some, All}
+use Rattle.std.proofs.Common.{refl, sym, ap, subst, ◌∙◌, arith, ℕ}
 use Rattle.std.proofs.lemmas.List.Elements.{All-nil, All-cons, All-head, All-tail}
-use Rattle.std.proofs.lemmas.Int.{ints}
 use Rattle.txn_types.specs.BySession.{BySession, entry_of, with_entry}
 use Rattle.txn_types.specs.Order.{same_lsid}
 use Rattle.txn_types.specs.declared.names.Tag.{Tag}
@@ -20,10 +19,8 @@ use Rattle.txn_types.specs.Letters.{Named}
 use Rattle.answer_laws.proofs.Fits.{PostFits, DoingFits, EntryFits, RouterFits, GivenFit, SameDoing}
 use Rattle.answer_laws.proofs.Fits.{GoesOn, DeedFits, AllGo, MoveFits, IsIn, HasCome}
 use Rattle.answer_laws.proofs.Deeds.{both_name}
-use Rattle.answer_laws.proofs.Lists.{entries_put}
-
-pub rises : (a b c : ℤ) → a <ℤ b → b <ℤ c → a <ℤ c
-rises a b c h k = omega (arith, ints, h, k)
+use Rattle.world_laws.proofs.PartTimes.{entries_put}
+use Rattle.world_laws.proofs.Going.{rises, first_is, rest_is, put_first, put_rest, some_same}
 
 same_then : (a b c : Doing) → SameDoing a b → SameDoing b c → SameDoing a c
 same_then (Begun t) (Begun u) (Begun v) h k = (k.0 ∙ h.0, omega (arith, h.1, k.1))
@@ -53,30 +50,6 @@ all_then r s t h k lsid old e = let a = h lsid old e in let b = k lsid a.0 a.1 i
     (b.0, b.1, goes_then old a.0 b.0 a.2 b.2)
 
 -- Entries.
-
-pub first_is : {A : Type 0} (lsid : Lsid) (entry : Lsid × A) (entries : BySession A)
-    → same_lsid lsid entry.0 ≡ true → entry_of lsid (entry ∷ entries) ≡ Some entry.1
-first_is lsid entry entries h = ap (λ b. option_map (λ (e : Lsid × _). e.1)
-    (cond b (Some entry) (find (λ (e : Lsid × _). same_lsid lsid e.0) entries))) h
-
-pub rest_is : {A : Type 0} (lsid : Lsid) (entry : Lsid × A) (entries : BySession A)
-    → same_lsid lsid entry.0 ≡ false → entry_of lsid (entry ∷ entries) ≡ entry_of lsid entries
-rest_is lsid entry entries h = ap (λ b. option_map (λ (e : Lsid × _). e.1)
-    (cond b (Some entry) (find (λ (e : Lsid × _). same_lsid lsid e.0) entries))) h
-
-put_first : {A : Type 0} (lsid : Lsid) (a : A) (entry : Lsid × A) (entries : BySession A)
-    → same_lsid lsid entry.0 ≡ true → with_entry lsid a (entry ∷ entries) ≡ (lsid, a) ∷ entries
-put_first lsid a entry entries h =
-    ap (λ b. cond b ((lsid, a) ∷ entries) (entry ∷ with_entry lsid a entries)) h
-
-put_rest : {A : Type 0} (lsid : Lsid) (a : A) (entry : Lsid × A) (entries : BySession A)
-    → same_lsid lsid entry.0 ≡ false
-    → with_entry lsid a (entry ∷ entries) ≡ entry ∷ with_entry lsid a entries
-put_rest lsid a entry entries h =
-    ap (λ b. cond b ((lsid, a) ∷ entries) (entry ∷ with_entry lsid a entries)) h
-
-pub some_same : {A : Type 0} (a b : A) → Some a ≡ Some b → a ≡ b
-some_same a b e = grind arith
 
 -- what stands under a session goes on
 abbrev Goes : BySession Session → Lsid → Session → Type 0

@@ -1,28 +1,14 @@
 -- Lists under keys, and tests of lists.
-use Rattle.std.proofs.Common.{◌≡◌, ◌⊎◌, inl, inr, zero, Some, ℕ, Bool, true, false, ◌&&◌, ◌||◌, All}
-use Rattle.std.proofs.Common.{List, [], ◌∷◌, map, suc, nat_eq, refl, sym, ap, subst, ◌∙◌, arith}
+use Rattle.std.proofs.Common.{◌≡◌, zero, Some, ℕ, Bool, true, false, ◌&&◌, ◌||◌, All, List, [], ◌∷◌}
+use Rattle.std.proofs.Common.{suc, nat_eq, refl, sym, ap, subst, ◌∙◌, arith}
 use Rattle.std.specs.Prelude.{Contains, slice_get, slice_set}
 use Rattle.std.specs.List.{list_any, list_all}
-use Rattle.std.specs.Ordering.{is_eq}
 use Rattle.std.specs.declared.cmp.Ordering.{Ordering}
 use Rattle.std.specs.declared.cmp.Ordering.TheVariants.{Less, Equal, Greater}
 use Rattle.std.proofs.lemmas.Bool.{eqb-true}
 use Rattle.std.proofs.lemmas.List.Elements.{All-nil, All-cons, All-head, All-tail}
-use Rattle.txn_types.specs.BySession.{BySession, with_entry}
-use Rattle.txn_types.specs.Order.{same_lsid, same_tag, tag_cmp}
-use Rattle.txn_types.specs.declared.node.Lsid.{Lsid}
-use Rattle.participant.proofs.Cases.{either}
-use Rattle.txn_types.specs.declared.names.Tag.{Tag}
-use Rattle.txn_types.proofs.Orders.{tag_exact}
 use Rattle.txn_semantics.specs.Keyed.{put}
-
-is_equal : (o : Ordering) → is_eq o ≡ true → o ≡ Equal
-is_equal Less e = grind arith
-is_equal Equal e = refl
-is_equal Greater e = grind arith
-
-pub tag_is : (a b : Tag) → same_tag a b ≡ true → a ≡ b
-tag_is a b e = tag_exact a b (is_equal (tag_cmp a b) e)
+use Rattle.world_laws.proofs.Naming.{one}
 
 pub nat_is : (a b : ℕ) → nat_eq a b ≡ true → a ≡ b
 nat_is a b e = eqb-true a b e
@@ -73,32 +59,6 @@ all_put cmp Q key a [] new h = All-cons Q (key, a) [] new (All-nil Q)
 all_put cmp Q key a (row ∷ rows) new h =
     put_by cmp Q key a row rows (cmp key row.0) new (All-head Q row rows h) (All-tail Q row rows h)
     (all_put cmp Q key a rows new (All-tail Q row rows h))
-
-pub one : {A : Type 0} (P : A → Type 0) (x : A) → P x → All P (x ∷ [])
-one P x h = All-cons P x [] h (All-nil P)
-
-pub each : {A B : Type 0} (P : B → Type 0) (f : A → B) (xs : List A) → ((x : A) → P (f x))
-    → All P (map f xs)
-each P f [] h = All-nil P
-each P f (x ∷ xs) h = All-cons P (f x) (map f xs) (h x) (each P f xs h)
-
-pub entries_put : {A : Type 0} (R : Lsid × A → Type 0) (lsid : Lsid) (a : A) (entries : BySession A)
-    → R (lsid, a) → All R entries → All R (with_entry lsid a entries)
-entries_put R lsid a [] this h = one R (lsid, a) this
-entries_put R lsid a (entry ∷ entries) this h =
-    either (same_lsid lsid entry.0) (All R) _ _
-    (All-cons R (lsid, a) entries this (All-tail R entry entries h))
-    (All-cons R entry (with_entry lsid a entries) (All-head R entry entries h)
-    (entries_put R lsid a entries this (All-tail R entry entries h)))
-
-pub get_set : {A : Type 0} (xs : List A) (i j : ℕ) (y x : A)
-    → slice_get (slice_set xs i y) j ≡ Some x → ((j ≡ i) × (y ≡ x)) ⊎ (slice_get xs j ≡ Some x)
-get_set [] i j y x e = inr e
-get_set (a ∷ xs) zero zero y x e = inl (refl, grind arith)
-get_set (a ∷ xs) zero (suc j) y x e = inr e
-get_set (a ∷ xs) (suc i) zero y x e = inr e
-get_set (a ∷ xs) (suc i) (suc j) y x e =
-    elim (get_set xs i j y x e) [ inl h ↦ inl (ap suc h.0, h.1) | inr h ↦ inr h ]
 
 -- what stands at a place is put there
 pub set_same : {A : Type 0} (xs : List A) (i : ℕ) (x : A) → slice_get xs i ≡ Some x

@@ -33,16 +33,17 @@ use Rattle.answer_laws.proofs.Fits.{PostFits, DoingFits, EntryFits, RouterFits}
 use Rattle.answer_laws.proofs.Beginning.{step_names}
 use Rattle.answer_laws.proofs.Sending.{event_fits}
 use Rattle.answer_laws.proofs.Shards.{Other, E, takes_gives}
-use Rattle.answer_laws.proofs.Lists.{get_set, set_same}
+use Rattle.world_laws.proofs.Lists.{get_set}
+use Rattle.answer_laws.proofs.Lists.{set_same}
 
 -- More was opened.
 
-msg_more : (Q R : ℕ → Statement → Type 0) → ((n : ℕ) (m : Statement) → Q n m → R n m)
+pub msg_more : (Q R : ℕ → Statement → Type 0) → ((n : ℕ) (m : Statement) → Q n m → R n m)
     → (shard : ℕ) (m : Msg) → MsgFits Q shard m → MsgFits R shard m
 msg_more Q R f shard (msg.Statement m) h = f shard m h
 msg_more Q R f shard other h = tt
 
-sent_more : (Q R : ℕ → Statement → Type 0) → ((n : ℕ) (m : Statement) → Q n m → R n m)
+pub sent_more : (Q R : ℕ → Statement → Type 0) → ((n : ℕ) (m : Statement) → Q n m → R n m)
     → (to : NodeId) (m : Msg) → SentTo Q to m → SentTo R to m
 sent_more Q R f (Shard n) m h = msg_more Q R f n m h
 sent_more Q R f (Router n) m h = tt
@@ -52,13 +53,13 @@ all_sent_more : (Q R : ℕ → Statement → Type 0) → ((n : ℕ) (m : Stateme
 all_sent_more Q R f sent h = All-weaker (λ (e : Envelope). SentTo Q e.to e.msg) (λ (e : Envelope).
     SentTo R e.to e.msg) (λ e. sent_more Q R f e.to e.msg) sent h
 
-doing_more : (Q R : ℕ → Statement → Type 0) → ((n : ℕ) (m : Statement) → Q n m → R n m)
+pub doing_more : (Q R : ℕ → Statement → Type 0) → ((n : ℕ) (m : Statement) → Q n m → R n m)
     → (doing : Doing) → DoingFits Q doing → DoingFits R doing
 doing_more Q R f (Begun t) h =
     All-weaker (PostFits Q) (PostFits R) (λ (post : Post). msg_more Q R f post.0 post.1) t.waiting h
 doing_more Q R f (Sought seeking known) h = tt
 
-router_more : (Q R : ℕ → Statement → Type 0) → ((n : ℕ) (m : Statement) → Q n m → R n m)
+pub router_more : (Q R : ℕ → Statement → Type 0) → ((n : ℕ) (m : Statement) → Q n m → R n m)
     → (r : RouterState) → RouterFits Q r → RouterFits R r
 router_more Q R f r h = All-weaker (EntryFits Q) (EntryFits R) (λ (entry : Lsid × Session).
     doing_more Q R f entry.1.doing) r.sessions h
@@ -74,12 +75,12 @@ part_more chunks begun new n m h = record {
   op = h.op;
 }
 
-other_sent : (Q : ℕ → Statement → Type 0) (to : NodeId) (m : Msg) → Other m → SentTo Q to m
+pub other_sent : (Q : ℕ → Statement → Type 0) (to : NodeId) (m : Msg) → Other m → SentTo Q to m
 other_sent Q (Router n) m h = tt
 other_sent Q (Shard n) (msg.Statement m) h = absurd h
 other_sent Q (Shard n) other h = tt
 
-others_fit : (Q : ℕ → Statement → Type 0) (out : List Envelope) → All E out → SentFit Q out
+pub others_fit : (Q : ℕ → Statement → Type 0) (out : List Envelope) → All E out → SentFit Q out
 others_fit Q out h =
     All-weaker E (λ (e : Envelope). SentTo Q e.to e.msg) (λ e. other_sent Q e.to e.msg) out h
 
@@ -109,7 +110,7 @@ stands_more chunks begun new r h = record {
 
 -- A router's step.
 
-after_is : (want : Bool) (r : RouterState) (e : NodeEvent)
+pub after_is : (want : Bool) (r : RouterState) (e : NodeEvent)
     → is_memory (sp.answer_of want (sp.router_step want r e)) ≡ want
 after_is true r e = refl
 after_is false r e = refl

@@ -2,7 +2,7 @@
 use Rattle.std.proofs.Common.{inl, inr, ℕ, ℤ, All, List, [], ◌∷◌, Option, Some, None, option_map}
 use Rattle.std.proofs.Common.{option_and_then, unwrap_or, is_some, Result, Err, nat_eq, sym, subst}
 use Rattle.std.proofs.lemmas.List.Elements.{All-nil, All-append, All-map}
-use Rattle.txn_types.specs.Letters.{Letter, sent_by}
+use Rattle.txn_types.specs.Letters.{Letter, sent_by, given_out}
 use Rattle.txn_types.specs.Order.{same_tag}
 use Rattle.txn_types.specs.declared.cause.Cause.{Cause}
 use Rattle.txn_types.specs.declared.cause.Cause.TheVariants as cause
@@ -49,8 +49,7 @@ use Rattle.shard_core.specs.Core.{Room, Ample, Scarce, Short, CoreStep, core_ste
 use Rattle.shard_core.specs.Core.{stays, entered, happened, scarce, running_step, stopped_step}
 use Rattle.shard_core.specs.Core.{answer_stopped, says_stopped, gives_out, answer_of}
 use Rattle.shard_core.specs.NodeStep.{NodeState, ShardTakes}
-use Rattle.txn_types.specs.Letters.{given_out}
-use Rattle.answer_laws.proofs.Lists.{one, each}
+use Rattle.world_laws.proofs.Naming.{one, each}
 
 -- no statement and no commit
 abbrev pub Other : Msg → Type 0

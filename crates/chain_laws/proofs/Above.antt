@@ -5,7 +5,6 @@ use Rattle.std.proofs.Common.{codes, ◌==◌, if◌then◌else◌}
 use Rattle.std.specs.Option.{option_and_then}
 use Rattle.std.specs.Str.{bytes_eq}
 use Rattle.std.proofs.lemmas.Slice.Eq.{bytes_eq-Decides}
-use Rattle.outcomes.specs.Bind.{◌>>=◌}
 use Rattle.bson_core.specs.declared.value.Value.{Value}
 use Rattle.bson_core.specs.declared.value.Value.TheOpen as of
 use Rattle.bson_core.specs.declared.value.Value.TheOpen.{Value-F}
@@ -34,6 +33,7 @@ use Rattle.client_cmd.specs.declared.request.Request.TheVariants as request
 use Rattle.client_cmd.specs.Commands as cmd
 use Rattle.router_plan.specs.Messages.{asked_by, read_by, asked_in}
 use Rattle.chain_laws.proofs.Moving.{IsUp}
+use Rattle.told_laws.proofs.Requests.{cmd_bind}
 
 -- The first field of a name in a document that was checked field by field.
 
@@ -141,11 +141,6 @@ at_up s frame o e =
 abbrev pub NamesUp : Request → Type 0
 NamesUp (request.Statement op txn at after more time) = IsUp at
 NamesUp other = Unit {0}
-
-cmd_bind : {A B : Type 0} (r : Result A CmdErr) (f : A → Result B CmdErr) (y : B)
-    → (r >>= f) ≡ Ok y → (x : A) × (r ≡ Ok x) × (f x ≡ Ok y)
-cmd_bind (Ok x) f y e = (x, refl, e)
-cmd_bind (Err d) f y e = absurd cc
 
 cmd_is : (x y : Request) → ◌≡◌ {A = Result Request CmdErr} (Ok x) (Ok y) → x ≡ y
 cmd_is x y e = cc

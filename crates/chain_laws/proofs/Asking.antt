@@ -21,12 +21,12 @@ use Rattle.router_core.specs.Requests as rq
 use Rattle.cluster_core.specs.Answering.{Unanswered}
 use Rattle.answer_laws.proofs.Fits.{PostFits, AllFit}
 use Rattle.address_laws.proofs.Maps.{asked_there}
-use Rattle.told_laws.proofs.Lists.{only_one}
+use Rattle.told_laws.proofs.Lists.{only_one, none_there}
 use Rattle.told_laws.proofs.Moves.{IsIdleIn}
 use Rattle.chain_laws.specs.Chained.{HasBoot}
 use Rattle.chain_laws.proofs.Moving.{Asks, MayAsk, IsFresh}
-use Rattle.chain_laws.proofs.Standing.{KnownBoot, Times, TxnChains, DoingChains}
-use Rattle.chain_laws.proofs.Standing.{SessionsChain, Chained, txn_more, sessions_more, doing_more}
+use Rattle.chain_laws.proofs.Standing.{KnownBoot, Times, TxnChains, DoingChains, SessionsChain}
+use Rattle.chain_laws.proofs.Standing.{Chained, txn_more, sessions_more, doing_more}
 
 -- a transaction that a step begins, with what it reads at
 pub record Begins (r s : RouterState) (x : Tag × ℕ) : Type 0 where
@@ -41,9 +41,6 @@ pub record Asked (completed now : List Unanswered) (times : Times) (r : RouterSt
   pub one : (x y : Tag × ℕ) → Contains fresh x → Contains fresh y → x ≡ y
   pub sessions : SessionsChain (completed ++ now) (times ++ fresh) m.state
   pub sends : AllFit (Chained (completed ++ now) (times ++ fresh)) m.given.sends
-
-pub none_there : {A : Type 0} {X : Type 0} (x : A) → Contains [] x → X
-none_there x h = absurd (omega (arith, h.1))
 
 -- On one shard each statement goes to it.
 

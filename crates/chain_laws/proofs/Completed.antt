@@ -1,19 +1,14 @@
 -- What a run answers is answered of the statements that it completes, and these come of Answers that
 -- were sent; each statement that was opened was sent.
-use Rattle.std.proofs.Common.{◌≡◌, inl, inr, ℕ, Bool, true, false, not, ◌&&◌, All, List, [], ◌∷◌, ◌++◌, map}
-use Rattle.std.proofs.Common.{filter_map, length, nat_eq, Option, Some, None, refl, sym, ap, ap₂, subst}
-use Rattle.std.proofs.Common.{◌∙◌, arith, if◌then◌else◌}
+use Rattle.std.proofs.Common.{◌≡◌, inl, inr, ℕ, Bool, true, false, not, ◌&&◌, All, List, [], ◌∷◌}
+use Rattle.std.proofs.Common.{◌++◌, map, filter_map, length, Option, Some, None, refl, sym, ap, ap₂}
+use Rattle.std.proofs.Common.{subst, ◌∙◌, arith, if◌then◌else◌}
 use Rattle.std.specs.Prelude.{Contains, slice_get, is_some}
-use Rattle.std.specs.List.{list_any}
-use Rattle.std.specs.Ordering.{nat_cmp}
 use Rattle.std.proofs.lemmas.List.{append-nil, append_assoc, map-append}
-use Rattle.std.proofs.lemmas.List.Elements.{All-nil, All-cons, All-append}
-use Rattle.std.proofs.lemmas.List.Elements.{All-weaker, All-map, All-filter, Contains-append_left}
-use Rattle.std.proofs.lemmas.List.Elements.{Contains-append_right, All-contains}
+use Rattle.std.proofs.lemmas.List.Elements.{All-nil, All-cons, All-append, All-weaker, All-filter}
+use Rattle.std.proofs.lemmas.List.Elements.{Contains-append_left, Contains-append_right}
+use Rattle.std.proofs.lemmas.List.Elements.{All-contains}
 use Rattle.txn_types.specs.Letters.{given_out}
-use Rattle.txn_types.specs.Order.{same_tag}
-use Rattle.txn_types.specs.declared.event.Happening.{Happening}
-use Rattle.txn_types.specs.declared.event.Happening.TheVariants as what
 use Rattle.txn_types.specs.declared.event.NodeAnswer.{NodeAnswer}
 use Rattle.txn_types.specs.declared.event.NodeEvent.{NodeEvent}
 use Rattle.txn_types.specs.declared.message.Answer.{Answer}
@@ -24,29 +19,29 @@ use Rattle.txn_types.specs.declared.message.Statement.{Statement}
 use Rattle.txn_types.specs.declared.node.NodeId.{NodeId}
 use Rattle.txn_types.specs.declared.node.NodeId.TheVariants.{Shard, Router}
 use Rattle.txn_types.specs.declared.operation.Op.{Op}
-use Rattle.txn_semantics.specs.Keyed.{put}
 use Rattle.txn_semantics.specs.declared.commits.Answered.{Answered}
 use Rattle.client_cmd.specs.declared.request.Request.TheVariants as request
 use Rattle.router_state.specs.State.{RouterState}
 use Rattle.txn_model.specs.declared.ran.Ran.{Ran}
 use Rattle.txn_model.specs.declared.ran.Ran.TheVariants.{Step, Swapped}
 use Rattle.cluster_core.specs.Answering.{Unanswered, answered_of, meaning_in, statement_in}
-use Rattle.cluster_core.specs.Answering.{is_for, with_answer, is_complete, all_say, taken_msg}
-use Rattle.cluster_core.specs.Answering.{taken_what, opened, opened_by as opened_parts}
-use Rattle.cluster_core.specs.Answering.{statements_in, unanswered_behind}
-use Rattle.cluster_core.specs.Ledger.{Ledger, fresh_ledger, entered, entered_at}
-use Rattle.cluster_core.specs.Ledger.{entered_by, passed, swapped, answered_from}
+use Rattle.cluster_core.specs.Answering.{is_complete, all_say, taken_what, opened}
+use Rattle.cluster_core.specs.Answering.{opened_by as opened_parts, statements_in}
+use Rattle.cluster_core.specs.Answering.{unanswered_behind}
+use Rattle.cluster_core.specs.Ledger.{Ledger, fresh_ledger, entered, entered_at, entered_by, passed}
+use Rattle.cluster_core.specs.Ledger.{swapped, answered_from}
 use Rattle.cluster_core.specs.Nodes.{Nodes}
 use Rattle.cluster_core.specs.Routers.{Asked, is_memory, request_at}
 use Rattle.cluster_core.specs.Trace.{Happens, IsTrace, MayCome}
 use Rattle.answer_laws.specs.Opened.{opened_at, opened_by, opened_from}
-use Rattle.answer_laws.specs.Comes.{IsGiven, as_opened, Comes}
-use Rattle.answer_laws.proofs.Lists.{all_put, both_true, any_nat, tag_is, nat_is, all_true}
-use Rattle.answer_laws.proofs.Lists.{has_first, has_more}
+use Rattle.answer_laws.specs.Comes.{Comes}
+use Rattle.answer_laws.proofs.Lists.{both_true, nat_is, all_true, has_first, has_more}
 use Rattle.told_laws.proofs.Lists.{has_cases, contained, filter_has}
 use Rattle.chain_laws.specs.Completing.{completed_among, completed_at, completed_by, completed_from}
 use Rattle.chain_laws.specs.Completing.{IsCompleted}
 use Rattle.chain_laws.specs.Chained.{WasSent}
+use Rattle.answer_laws.proofs.Answered.{comes_later, all_later, taken, IsNew, all_new, new_comes}
+use Rattle.answer_laws.proofs.Answered.{swapped_on, run_sent}
 
 -- What is answered.
 
@@ -80,124 +75,9 @@ run_of l (ran ∷ run) =
 
 -- More was sent, and more was opened.
 
-given_later : (sent more : List Envelope) (u : Unanswered) (x : ℕ × Answer) → IsGiven sent u x
-    → IsGiven (sent ++ more) u x
-given_later sent more u x g = record {
-  envelope = g.envelope;
-  sent = Contains-append_left sent more g.envelope g.sent;
-  to = g.to;
-  msg = g.msg;
-  shard = g.shard;
-  asked = g.asked;
-  tag = g.tag;
-  k = g.k;
-}
-
-comes_later : (sent more : List Envelope) (begun after : List Unanswered) (u : Unanswered)
-    → Comes sent begun u → Comes (sent ++ more) (begun ++ after) u
-comes_later sent more begun after u c = record {
-  opened = Contains-append_left begun after (as_opened u) c.opened;
-  answers = All-weaker (IsGiven sent u) (IsGiven (sent ++ more) u) (given_later sent more u)
-      u.answers c.answers;
-}
-
-all_later : (sent more : List Envelope) (begun after us : List Unanswered)
-    → All (Comes sent begun) us → All (Comes (sent ++ more) (begun ++ after)) us
-all_later sent more begun after us h = All-weaker (Comes sent begun) (Comes (sent ++ more)
-    (begun ++ after)) (comes_later sent more begun after) us h
-
 -- An Answer that is taken.
 
-with_given : (sent : List Envelope) (begun : List Unanswered) (n : ℕ) (e : Envelope) (a : Answer)
-    (u : Unanswered) (test : Bool) → Contains sent e → e.to ≡ Router n → e.msg ≡ msg.Answer a
-    → is_for n a u ≡ test
-    → Comes sent begun u → Comes sent begun (with_answer n a u)
-with_given sent begun n e a u false there to is for c = rw for c
-with_given sent begun n e a u true there to is for c =
-    let all = both_true (nat_eq u.router n && same_tag u.tag a.tag && nat_eq u.k a.k
-    && list_any (nat_eq a.shard) u.shards) _ for in
-    let four = both_true (nat_eq u.router n && same_tag u.tag a.tag && nat_eq u.k a.k) _ all.0 in
-    let three = both_true (nat_eq u.router n && same_tag u.tag a.tag) _ four.0 in
-    let two = both_true (nat_eq u.router n) _ three.0 in
-    let g : IsGiven sent u (a.shard, a) =
-    record {
-      envelope = e;
-      sent = there;
-      to = to ∙ ap Router (sym (nat_is u.router n two.0));
-      msg = is;
-      shard = refl;
-      asked = any_nat a.shard u.shards four.1;
-      tag = sym (tag_is u.tag a.tag two.1);
-      k = sym (nat_is u.k a.k three.1);
-    } in
-    rw for (moved sent begun u a g c)
-  where
-    moved : (sent : List Envelope) (begun : List Unanswered) (u : Unanswered) (a : Answer)
-        → IsGiven sent u (a.shard, a) → Comes sent begun u
-        → Comes sent begun (record u { answers = put nat_cmp a.shard a u.answers })
-    moved sent begun u a g c =
-        let all = all_put nat_cmp (IsGiven sent u) a.shard a u.answers g c.answers in
-        record {
-          opened = c.opened;
-          answers = All-weaker (IsGiven sent u) (IsGiven sent
-              (record u { answers = put nat_cmp a.shard a u.answers })) (λ x g. record {
-                envelope = g.envelope;
-                sent = g.sent;
-                to = g.to;
-                msg = g.msg;
-                shard = g.shard;
-                asked = g.asked;
-                tag = g.tag;
-                k = g.k;
-              }) _ all;
-        }
-
-msg_taken : (sent : List Envelope) (begun : List Unanswered) (n : ℕ) (e : Envelope)
-    (m : Msg) (us : List Unanswered) → Contains sent e → e.to ≡ Router n → e.msg ≡ m
-    → All (Comes sent begun) us → All (Comes sent begun) (taken_msg n m us)
-msg_taken sent begun n e (msg.Answer a) us there to is h =
-    All-map (Comes sent begun) (with_answer n a) us
-    (All-weaker (Comes sent begun) (λ u. Comes sent begun (with_answer n a u))
-    (λ u c. with_given sent begun n e a u (is_for n a u) there to is refl c) us h)
-msg_taken sent begun n e other us there to is h = h
-
-taken : (sent : List Envelope) (begun : List Unanswered) (n : ℕ) (w : Happening)
-    (us : List Unanswered) → MayCome sent (Router n) w → All (Comes sent begun) us
-    → All (Comes sent begun) (taken_what n w us)
-taken sent begun n (what.Deliver e) us may h = msg_taken sent begun n e e.msg us may.0 may.1 refl h
-taken sent begun n (what.Gone conn) us may h = All-filter (λ (u : Unanswered).
-    not (nat_eq u.router n && nat_eq u.conn conn)) (Comes sent begun) us h
-taken sent begun n other us may h = h
-
 -- What is opened.
-
-abbrev IsNew : Unanswered → Type 0
-IsNew u = u.answers ≡ []
-
-new_parts : (n conn : ℕ) (op : Op) (parts : List (ℕ × Statement))
-    → All IsNew (opened_parts n conn op parts)
-new_parts n conn op [] = All-nil IsNew
-new_parts n conn op (part ∷ parts) = All-cons IsNew _ [] refl (All-nil IsNew)
-
-all_new : (n : ℕ) (asked : Option Asked) (a : NodeAnswer) → All IsNew (opened n asked a)
-all_new n None a = All-nil IsNew
-all_new n (Some (conn, request.Ping more time)) a = All-nil IsNew
-all_new n (Some (conn, request.Hello old_name more time)) a = All-nil IsNew
-all_new n (Some (conn, request.Statement op txn at after more time)) a =
-    new_parts n conn op (statements_in a)
-all_new n (Some (conn, request.Commit txn t more time)) a = All-nil IsNew
-all_new n (Some (conn, request.Abort txn more time)) a = All-nil IsNew
-all_new n (Some (conn, request.EndSessions ids more time)) a = All-nil IsNew
-
-new_comes : (sent : List Envelope) (begun new : List Unanswered) (u : Unanswered) → IsNew u
-    → Contains new u → Comes sent (begun ++ new) u
-new_comes sent begun new u is there =
-    let same : u ≡ as_opened u =
-    ap (λ (answers : List (ℕ × Answer)). record u { answers = answers }) is in
-    record {
-      opened = subst (Contains (begun ++ new)) same (Contains-append_right begun new u there);
-      answers = subst (All (IsGiven sent u)) (sym is) (All-nil (IsGiven sent u));
-    }
 
 opened_come : (sent : List Envelope) (begun new : List Unanswered) → All IsNew new
     → All (Comes sent (begun ++ new)) new
@@ -269,13 +149,6 @@ entered_if sent more begun l n (Some r) e a may h = by (is_memory a)
     by true = passed_on sent more begun (opened n (request_at r e a) a) l h
     by false = went sent more begun l n r e a may h
 
-swapped_on : (sent : List Envelope) (begun : List Unanswered) (l : Ledger)
-    (n : ℕ) (r : Option RouterState) → All (Comes sent begun) l.unanswered
-    → All (Comes sent begun) (swapped l n r).unanswered
-swapped_on sent begun l n None h = h
-swapped_on sent begun l n (Some r) h =
-    All-filter (λ (u : Unanswered). not (nat_eq u.router n)) (Comes sent begun) l.unanswered h
-
 ran_went : (old : Nodes) (ran : Ran) (new : Nodes) (begun : List Unanswered) (l : Ledger)
     → Happens old ran new → All (Comes old.sent begun) l.unanswered
     → Went new.sent (begun ++ opened_by l ran) (entered_by l ran).ledger (completed_by l ran)
@@ -304,25 +177,6 @@ ran_went old (Swapped (Shard n)) new begun l h k =
     subst (λ (s : List Envelope). Went s (begun ++ []) (passed l).ledger []) (sym same) g
 
 -- A run.
-
-sent_more : (old : Nodes) (ran : Ran) (new : Nodes) → Happens old ran new
-    → (out : List Envelope) × (new.sent ≡ old.sent ++ out)
-sent_more old (Step (Router n) e a faults) new h = (_, ap (λ (w : Nodes). w.sent) h.nodes)
-sent_more old (Step (Shard n) e a faults) new h = (_, ap (λ (w : Nodes). w.sent) h.nodes)
-sent_more old (Swapped (Router n)) new h =
-    ([], ap (λ (w : Nodes). w.sent) h.nodes ∙ sym (append-nil old.sent))
-sent_more old (Swapped (Shard n)) new h =
-    ([], ap (λ (w : Nodes). w.sent) h.nodes ∙ sym (append-nil old.sent))
-
-run_sent : (old : Nodes) (run : List Ran) (trace : List Nodes) (new : Nodes)
-    → IsTrace old run trace new → (out : List Envelope) × (new.sent ≡ old.sent ++ out)
-run_sent old [] [] new h = ([], ap (λ (w : Nodes). w.sent) h ∙ sym (append-nil old.sent))
-run_sent old [] (nodes ∷ trace) new h = absurd h
-run_sent old (ran ∷ run) [] new h = absurd h
-run_sent old (ran ∷ run) (nodes ∷ trace) new h =
-    let a = sent_more old ran h.1.0 h.1.1 in
-    let b = run_sent h.1.0 run trace new h.1.2 in
-    (a.0 ++ b.0, b.1 ∙ ap (λ (s : List Envelope). s ++ b.0) a.1 ∙ append_assoc old.sent a.0 b.0)
 
 is_later : (sent more : List Envelope) (begun after : List Unanswered) (u : Unanswered)
     → IsCompleted sent begun u → IsCompleted (sent ++ more) (begun ++ after) u

@@ -1,8 +1,8 @@
 -- What an event does at a router, session by session: a transaction keeps what it reads at and the
 -- boots of its shards, or it asks a statement.
 use Rattle.std.proofs.Common.{◌≡◌, ◌⊎◌, inl, inr, ◌+◌, ◌≤◌, ◌<◌, ◌||◌, ◌*◌, ◌^◌, max, ℕ, ℤ, pos}
-use Rattle.std.proofs.Common.{Bool, true, false, not, List, [], ◌∷◌, Option, Some, None}
-use Rattle.std.proofs.Common.{◌+ℤ◌, refl, sym, ap, subst, ◌∙◌, arith, if◌then◌else◌}
+use Rattle.std.proofs.Common.{Bool, true, false, not, List, [], ◌∷◌, Option, Some, None, ◌+ℤ◌, refl}
+use Rattle.std.proofs.Common.{sym, ap, subst, ◌∙◌, arith, if◌then◌else◌}
 use Rattle.std.specs.List.{list_any}
 use Rattle.std.proofs.lemmas.Int.{ints}
 use Rattle.std.proofs.lemmas.List.Elements.{All-nil, All-append}
@@ -44,10 +44,11 @@ use Rattle.router_plan.specs.Refusals.{too_long, too_many, spent, many_shards, k
 use Rattle.router_plan.specs.Refusals.{is_elsewhere, is_aborted}
 use Rattle.router_core.specs.Requests as rq
 use Rattle.answer_laws.proofs.Fits.{PostFits, AllFit, NoStatement}
-use Rattle.answer_laws.proofs.Beginning.{IsBegun, is_begun, first_none, so_not, leaves_fit}
-use Rattle.answer_laws.proofs.Going.{first_is, rest_is, some_same}
+use Rattle.world_laws.proofs.Beginning.{IsBegun, is_begun, first_none, so_not}
+use Rattle.answer_laws.proofs.Beginning.{leaves_fit}
+use Rattle.world_laws.proofs.Going.{first_is, rest_is, some_same}
 use Rattle.told_laws.proofs.Quiet.{IsSettled}
-use Rattle.told_laws.proofs.Moves.{done_there, each_from, IsIdleIn}
+use Rattle.told_laws.proofs.Moves.{done_there, each_from, IsIdleIn, IsOther}
 use Rattle.chain_laws.proofs.Same.{SameDoing, same_self, same_then, commit_asked_same}
 use Rattle.chain_laws.proofs.Same.{client_aborts_same, session_same, seeks_same}
 
@@ -192,11 +193,6 @@ ends_same r (lsid ∷ lsids) =
     let next = (en.end_session r lsid (session_of r lsid)).state in
     all_then r next (en.end_sessions next lsids).state
     (end_same r lsid (session_of r lsid) refl) (ends_same next lsids)
-
--- requests that are no statement
-abbrev pub IsOther : Request → Type 0
-IsOther (request.Statement op txn at after more time) = ⊥
-IsOther other = Unit {0}
 
 pub others_same : (r : RouterState) (asker : Asker) (legacy : Bool) (x : Request) → IsOther x
     → AllSame r (rq.serves r asker legacy x).state

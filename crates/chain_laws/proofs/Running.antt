@@ -1,12 +1,12 @@
 -- What stands of the transactions of routers is kept by each event of a cluster of one shard, and so
 -- stands behind each run.
-use Rattle.std.proofs.Common.{◌≡◌, ◌⊎◌, inl, inr, ◌+◌, ◌≤◌, ◌<◌, ℕ, Bool, true, false, All, List, []}
-use Rattle.std.proofs.Common.{◌∷◌, ◌++◌, Option, Some, None, refl, sym, ap, subst}
-use Rattle.std.proofs.Common.{◌∙◌, ◌&&◌, arith, if◌then◌else◌, not, nat_eq}
+use Rattle.std.proofs.Common.{◌≡◌, ◌⊎◌, inl, inr, ◌+◌, ◌≤◌, ◌<◌, ℕ, Bool, true, false, All, List}
+use Rattle.std.proofs.Common.{[], ◌∷◌, ◌++◌, Option, Some, None, refl, sym, ap, subst, ◌∙◌, ◌&&◌}
+use Rattle.std.proofs.Common.{arith, if◌then◌else◌, not, nat_eq}
 use Rattle.std.specs.Prelude.{Contains, slice_get, slice_set}
 use Rattle.std.proofs.lemmas.List.{append-nil, append_assoc}
-use Rattle.std.proofs.lemmas.List.Elements.{All-nil, All-cons, All-append, All-filter}
-use Rattle.std.proofs.lemmas.List.Elements.{All-contains, Contains-append_cases}
+use Rattle.std.proofs.lemmas.List.Elements.{All-nil, All-cons, All-append, All-filter, All-contains}
+use Rattle.std.proofs.lemmas.List.Elements.{Contains-append_cases}
 use Rattle.txn_types.specs.Letters.{given_out}
 use Rattle.txn_types.specs.declared.event.Happening.{Happening}
 use Rattle.txn_types.specs.declared.event.Happening.TheVariants as what
@@ -30,9 +30,9 @@ use Rattle.router_core.specs.Step as sp
 use Rattle.router_core.proofs.Going.{step_on}
 use Rattle.txn_model.specs.declared.ran.Ran.{Ran}
 use Rattle.txn_model.specs.declared.ran.Ran.TheVariants.{Step, Swapped}
-use Rattle.cluster_core.specs.Answering.{Unanswered, is_complete, all_say}
-use Rattle.cluster_core.specs.Answering.{taken_msg, taken_what, opened, opened_by as opened_parts}
-use Rattle.cluster_core.specs.Answering.{statements_in, unanswered_behind}
+use Rattle.cluster_core.specs.Answering.{Unanswered, is_complete, all_say, taken_msg, taken_what}
+use Rattle.cluster_core.specs.Answering.{opened, opened_by as opened_parts, statements_in}
+use Rattle.cluster_core.specs.Answering.{unanswered_behind}
 use Rattle.cluster_core.specs.Ledger.{Ledger, fresh_ledger, ledger_behind, entered, entered_by}
 use Rattle.cluster_core.specs.Ledger.{passed, swapped, answered_from}
 use Rattle.cluster_core.specs.Nodes.{Nodes}
@@ -43,18 +43,20 @@ use Rattle.answer_laws.specs.Opened.{opened_from}
 use Rattle.answer_laws.specs.Parts.{SentTo, SentFit}
 use Rattle.answer_laws.proofs.Beginning.{step_names}
 use Rattle.answer_laws.proofs.Fits.{EntryFits, EventFits}
-use Rattle.answer_laws.proofs.Lists.{get_set, set_same}
-use Rattle.chain_laws.proofs.Sent.{others_fit, all_sent_more, router_more}
+use Rattle.world_laws.proofs.Lists.{get_set}
+use Rattle.answer_laws.proofs.Lists.{set_same}
+use Rattle.answer_laws.proofs.Running.{others_fit, router_more}
+use Rattle.chain_laws.proofs.Sent.{all_sent_more}
 use Rattle.answer_laws.proofs.Shards.{takes_gives}
-use Rattle.told_laws.proofs.Lists.{set_cases}
+use Rattle.told_laws.proofs.Lists.{set_cases, none_there}
 use Rattle.told_laws.proofs.Standing.{RouterStands}
-use Rattle.told_laws.proofs.Running.{Booked, all_booked}
+use Rattle.told_laws.proofs.Running.{Booked, all_booked, memory_state}
 use Rattle.chain_laws.specs.Completing.{completed_among, completed_at, completed_by, completed_from}
 use Rattle.chain_laws.proofs.Answering.{all_single}
-use Rattle.chain_laws.proofs.Asking.{none_there}
-use Rattle.chain_laws.proofs.Standing.{Times, Chained, IsSingle}
-use Rattle.chain_laws.proofs.Standing.{RouterChains, Chains, chained_more, sessions_more}
+use Rattle.chain_laws.proofs.Standing.{Times, Chained, IsSingle, RouterChains, Chains, chained_more}
+use Rattle.chain_laws.proofs.Standing.{sessions_more}
 use Rattle.chain_laws.proofs.Turning.{Turned, EventFirst, IsFirst, Completes, step_turned}
+use Rattle.told_laws.proofs.Booking.{drawn_again}
 
 -- Statements of the ledger.
 
@@ -155,15 +157,6 @@ stays chunks l l' completed old new rs ls us sent k =
     )
 
 -- A router's step.
-
-after_is : (want : Bool) (r : RouterState) (e : NodeEvent)
-    → is_memory (sp.answer_of want (sp.router_step want r e)) ≡ want
-after_is true r e = refl
-after_is false r e = refl
-
-memory_state : (r : RouterState) (e : NodeEvent) → (sp.router_step true r e).state ≡ r
-unfolding sp.router_step
-memory_state r e = refl
 
 memory_out : (r : RouterState) (e : NodeEvent)
     → given_out (sp.answer_of true (sp.router_step true r e)) ≡ []
@@ -327,10 +320,6 @@ router_chains chunks completed l old new n e a faults begun told is one firsts h
     (book.book.routers_stand n h.before there) k))
 
 -- A router that starts again.
-
-drawn_again : (r : RouterState) (n : ℕ) (tag : Tag) → WasDrawn r tag → WasDrawn (again n r) tag
-drawn_again r n tag (inl h) = inl (omega (arith, h))
-drawn_again r n tag (inr h) = let same : tag.boot ≡ r.boot = h.0 in inl (omega (arith, same))
 
 again_chains : (chunks : Map) (completed : List Unanswered) (times : Times) (n : ℕ)
     (r : RouterState) → r.chunks ≡ chunks → RouterChains chunks completed times (again n r)

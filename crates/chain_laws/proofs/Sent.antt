@@ -1,6 +1,6 @@
 -- What is said of statements that were sent holds where more is said of each.
-use Rattle.std.proofs.Common.{◌≡◌, ℕ, Bool, true, false, All, List, [], ◌∷◌, ◌++◌, map, refl, sym, ap}
-use Rattle.std.proofs.Common.{subst}
+use Rattle.std.proofs.Common.{◌≡◌, ℕ, Bool, true, false, All, List, [], ◌∷◌, ◌++◌, map, refl, sym}
+use Rattle.std.proofs.Common.{ap, subst}
 use Rattle.std.proofs.lemmas.List.Elements.{All-nil, All-append, All-contains, All-map, All-weaker}
 use Rattle.txn_types.specs.Letters.{Letter, sent_by, given_out}
 use Rattle.txn_types.specs.declared.event.NodeAnswer.{NodeAnswer}
@@ -9,12 +9,8 @@ use Rattle.txn_types.specs.declared.message.Envelope.{Envelope}
 use Rattle.txn_types.specs.declared.message.Msg.{Msg}
 use Rattle.txn_types.specs.declared.message.Msg.TheVariants as msg
 use Rattle.txn_types.specs.declared.message.Statement.{Statement}
-use Rattle.txn_types.specs.declared.node.Lsid.{Lsid}
 use Rattle.txn_types.specs.declared.node.NodeId.{NodeId}
 use Rattle.txn_types.specs.declared.node.NodeId.TheVariants.{Shard, Router}
-use Rattle.router_state.specs.declared.state.Doing.{Doing}
-use Rattle.router_state.specs.declared.state.Doing.TheVariants.{Begun, Sought}
-use Rattle.router_state.specs.declared.state.Session.{Session}
 use Rattle.router_state.specs.State.{Post, RouterState}
 use Rattle.router_plan.specs.Spelling.{letter_of}
 use Rattle.router_rules.specs.Times.{walled}
@@ -24,45 +20,15 @@ use Rattle.txn_model.specs.declared.ran.Ran.TheVariants.{Step, Swapped}
 use Rattle.cluster_core.specs.Nodes.{Nodes}
 use Rattle.cluster_core.specs.Trace.{Happens, IsTrace}
 use Rattle.answer_laws.specs.Parts.{MsgFits, SentTo, SentFit}
-use Rattle.answer_laws.proofs.Fits.{PostFits, DoingFits, EntryFits, RouterFits}
-use Rattle.answer_laws.proofs.Lists.{each}
+use Rattle.world_laws.proofs.Naming.{each}
 use Rattle.answer_laws.proofs.Shards.{Other, E, takes_gives}
 use Rattle.chain_laws.specs.Chained.{WasSent}
-
-msg_more : (Q R : ℕ → Statement → Type 0) → ((n : ℕ) (m : Statement) → Q n m → R n m)
-    → (shard : ℕ) (m : Msg) → MsgFits Q shard m → MsgFits R shard m
-msg_more Q R f shard (msg.Statement m) h = f shard m h
-msg_more Q R f shard other h = tt
-
-sent_more : (Q R : ℕ → Statement → Type 0) → ((n : ℕ) (m : Statement) → Q n m → R n m)
-    → (to : NodeId) (m : Msg) → SentTo Q to m → SentTo R to m
-sent_more Q R f (Shard n) m h = msg_more Q R f n m h
-sent_more Q R f (Router n) m h = tt
+use Rattle.answer_laws.proofs.Running.{sent_more}
 
 pub all_sent_more : (Q R : ℕ → Statement → Type 0) → ((n : ℕ) (m : Statement) → Q n m → R n m)
     → (sent : List Envelope) → SentFit Q sent → SentFit R sent
 all_sent_more Q R f sent h = All-weaker (λ (e : Envelope). SentTo Q e.to e.msg) (λ (e : Envelope).
     SentTo R e.to e.msg) (λ e. sent_more Q R f e.to e.msg) sent h
-
-doing_more : (Q R : ℕ → Statement → Type 0) → ((n : ℕ) (m : Statement) → Q n m → R n m)
-    → (doing : Doing) → DoingFits Q doing → DoingFits R doing
-doing_more Q R f (Begun t) h =
-    All-weaker (PostFits Q) (PostFits R) (λ (post : Post). msg_more Q R f post.0 post.1) t.waiting h
-doing_more Q R f (Sought seeking known) h = tt
-
-pub router_more : (Q R : ℕ → Statement → Type 0) → ((n : ℕ) (m : Statement) → Q n m → R n m)
-    → (r : RouterState) → RouterFits Q r → RouterFits R r
-router_more Q R f r h = All-weaker (EntryFits Q) (EntryFits R) (λ (entry : Lsid × Session).
-    doing_more Q R f entry.1.doing) r.sessions h
-
-other_sent : (Q : ℕ → Statement → Type 0) (to : NodeId) (m : Msg) → Other m → SentTo Q to m
-other_sent Q (Router n) m h = tt
-other_sent Q (Shard n) (msg.Statement m) h = absurd h
-other_sent Q (Shard n) other h = tt
-
-pub others_fit : (Q : ℕ → Statement → Type 0) (out : List Envelope) → All E out → SentFit Q out
-others_fit Q out h =
-    All-weaker E (λ (e : Envelope). SentTo Q e.to e.msg) (λ e. other_sent Q e.to e.msg) out h
 
 -- Statements go to shards alone.
 

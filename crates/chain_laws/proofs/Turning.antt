@@ -1,7 +1,6 @@
 -- A router's step: what it asks is chained to what was answered, and so are its sessions.
-use Rattle.std.proofs.Common.{◌≡◌, ◌+◌, ◌≤◌, ℕ, Bool, true, false, All, List, []}
-use Rattle.std.proofs.Common.{◌++◌, map, Result, Ok, Err, refl, sym, ap, subst}
-use Rattle.std.proofs.Common.{◌∙◌, if◌then◌else◌}
+use Rattle.std.proofs.Common.{◌≡◌, ◌+◌, ◌≤◌, ℕ, Bool, true, false, All, List, [], ◌++◌, map, Result}
+use Rattle.std.proofs.Common.{Ok, Err, refl, sym, ap, subst, ◌∙◌, if◌then◌else◌}
 use Rattle.std.specs.Prelude.{Contains}
 use Rattle.txn_types.specs.BySession.{BySession, entry_of}
 use Rattle.txn_types.specs.declared.event.Happening.{Happening}
@@ -37,12 +36,12 @@ use Rattle.told_laws.proofs.Standing.{RouterStands}
 use Rattle.chain_laws.specs.Completing.{completed_among}
 use Rattle.chain_laws.proofs.Above.{NamesUp, asked_up}
 use Rattle.chain_laws.proofs.Answering.{answered_chain}
-use Rattle.chain_laws.proofs.Asking.{Begins, none_there, asked_chains}
-use Rattle.chain_laws.proofs.Moving.{AllSame, all_self, each_same, others_same}
-use Rattle.chain_laws.proofs.Moving.{statement_asks}
+use Rattle.chain_laws.proofs.Asking.{Begins, asked_chains}
+use Rattle.told_laws.proofs.Lists.{none_there}
+use Rattle.chain_laws.proofs.Moving.{AllSame, all_self, each_same, others_same, statement_asks}
 use Rattle.chain_laws.proofs.Same.{ended_same, gone_same}
-use Rattle.chain_laws.proofs.Standing.{Times, SessionsChain, Chained, IsSingle}
-use Rattle.chain_laws.proofs.Standing.{sessions_go, sessions_more}
+use Rattle.chain_laws.proofs.Standing.{Times, SessionsChain, Chained, IsSingle, sessions_go}
+use Rattle.chain_laws.proofs.Standing.{sessions_more}
 
 -- what a step leaves; `E` says of its new statements that each is as it has to be
 pub record Turned (completed now : List Unanswered) (times : Times) (r s : RouterState)

@@ -1,9 +1,8 @@
 -- What an Answer leaves of the transaction that takes it: the shard's boot is the one that it
 -- tells.
-use Rattle.std.proofs.Common.{◌≡◌, inl, inr, ◌++◌, ◌&&◌, ◌||◌, ℕ, ℤ, Bool, true, false}
-use Rattle.std.proofs.Common.{not, List, [], ◌∷◌, filter, filter_map, nat_eq, Option, Some}
-use Rattle.std.proofs.Common.{None, Ok, Err, Result, refl, sym, ap, subst, ◌∙◌, arith}
-use Rattle.std.specs.List.{list_any}
+use Rattle.std.proofs.Common.{◌≡◌, inl, inr, ◌&&◌, ◌||◌, ℕ, ℤ, Bool, true, false, not, List, []}
+use Rattle.std.proofs.Common.{◌∷◌, filter_map, nat_eq, Option, Some, None, Ok, Err, Result, refl}
+use Rattle.std.proofs.Common.{sym, ap, subst, ◌∙◌, arith}
 use Rattle.std.specs.Ordering.{nat_cmp}
 use Rattle.txn_types.specs.Order.{same_tag}
 use Rattle.txn_types.specs.declared.cause.Cause.{Cause}
@@ -33,15 +32,12 @@ use Rattle.answer_laws.proofs.Lists.{nat_is, both_true}
 use Rattle.told_laws.proofs.Answering.{takes}
 use Rattle.told_laws.proofs.Taking.{none_wins}
 use Rattle.one_shard_laws.specs.Asking.{OneWrote}
-use Rattle.commit_laws.proofs.Follows.{Heard, Next, Asked, Follows, IsPast}
-use Rattle.commit_laws.proofs.Follows.{DeedFrom, DoingFollows}
+use Rattle.commit_laws.proofs.Follows.{Heard, Next, Asked, Follows, IsPast, DeedFrom, DoingFollows}
 use Rattle.commit_laws.proofs.Deeds.{no_asks, none_twice, aborts_none, without_none, commits_from}
 use Rattle.commit_laws.proofs.Deeds.{deed_other, kept_from}
+use Rattle.one_shard_laws.proofs.Asking.{also_wrote}
 
 -- Who wrote.
-
-abbrev also_wrote : List ℕ → List ℕ → List ℕ
-also_wrote wrote shards = wrote ++ filter (λ shard. not (list_any (nat_eq shard) wrote)) shards
 
 wrote_on : (wrote shards : List ℕ) → OneWrote wrote → OneWrote shards
     → OneWrote (also_wrote wrote shards)

@@ -1,8 +1,8 @@
 -- On one shard all answered statements of a committed transaction were served in the boot that its
 -- commit names.
-use Rattle.std.proofs.Common.{◌≡◌, ◌⊎◌, inl, inr, ◌+◌, ◌≤◌, ◌<◌, ℕ, Bool, true, false, All}
-use Rattle.std.proofs.Common.{◌&&◌, List, [], ◌∷◌, nat_eq, nat_lt, zero, suc, Ok, Err}
-use Rattle.std.proofs.Common.{Result, refl, sym, ap, ap₂, subst, ◌∙◌, arith}
+use Rattle.std.proofs.Common.{◌≡◌, ◌⊎◌, inl, inr, ◌+◌, ◌≤◌, ◌<◌, ℕ, Bool, true, false, All, ◌&&◌}
+use Rattle.std.proofs.Common.{List, [], ◌∷◌, nat_eq, nat_lt, zero, suc, Ok, Err, Result, refl, sym}
+use Rattle.std.proofs.Common.{ap, ap₂, subst, ◌∙◌, arith}
 use Rattle.std.specs.Prelude.{Contains, IsOk}
 use Rattle.std.proofs.lemmas.Bool.{ltb-true, ltb-false}
 use Rattle.std.proofs.lemmas.List.Elements.{All-contains}
@@ -27,11 +27,12 @@ use Rattle.part_laws.specs.Sound.{Served, is_of_life, written}
 use Rattle.part_laws.specs.Turned.{IsOf}
 use Rattle.cluster_core.specs.Answering.{Unanswered}
 use Rattle.answer_laws.specs.Parts.{SentTo, SentFit, IsPart}
-use Rattle.answer_laws.proofs.Lists.{tag_is, has_first, has_more}
+use Rattle.world_laws.proofs.Naming.{tag_is}
+use Rattle.answer_laws.proofs.Lists.{has_first, has_more}
 use Rattle.told_laws.specs.OneShard.{HaveIds}
 use Rattle.told_laws.specs.Places.{IsLater, IsOpened}
-use Rattle.told_laws.proofs.Lists.{InOrder, contained, filter_has, has_filter}
-use Rattle.told_laws.proofs.Lists.{order_two, order_filter, same_nat}
+use Rattle.told_laws.proofs.Lists.{InOrder, contained, filter_has, has_filter, order_two}
+use Rattle.told_laws.proofs.Lists.{order_filter, same_nat}
 use Rattle.told_laws.proofs.OneShard.{part_is_whole}
 use Rattle.commit_laws.specs.Speaking.{Gave, StatementFollows, CommitFollows, MsgFollows}
 use Rattle.commit_laws.proofs.Pairing.{Match, Falls, AlsoFalls, of_life, turned, turned_order}

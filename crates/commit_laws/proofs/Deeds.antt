@@ -1,10 +1,9 @@
 -- What is done in a session leaves its transaction as it should stand: commits, outcomes, ends and
 -- tokens.
-use Rattle.std.proofs.Common.{◌≡◌, inl, inr, ◌&&◌, ℕ, ℤ, not, All}
-use Rattle.std.proofs.Common.{List, [], ◌∷◌, ◌++◌, map, length, nat_eq, int_lt, is_none, Option}
-use Rattle.std.proofs.Common.{Some, None, refl, sym, ap, subst, ◌∙◌}
-use Rattle.std.proofs.lemmas.List.Elements.{All-nil, All-append, All-filter, All-map}
-use Rattle.std.proofs.lemmas.List.Elements.{All-weaker}
+use Rattle.std.proofs.Common.{◌≡◌, inl, inr, ◌&&◌, ℕ, ℤ, not, All, List, [], ◌∷◌, ◌++◌, map, length}
+use Rattle.std.proofs.Common.{nat_eq, int_lt, is_none, Option, Some, None, refl, sym, ap, subst}
+use Rattle.std.proofs.Common.{◌∙◌}
+use Rattle.std.proofs.lemmas.List.Elements.{All-nil, All-append, All-filter, All-map, All-weaker}
 use Rattle.txn_types.specs.Order.{same_tag}
 use Rattle.txn_types.specs.declared.decision.Told.{Told}
 use Rattle.txn_types.specs.declared.decision.Told.TheVariants as told_as
@@ -23,19 +22,18 @@ use Rattle.router_state.specs.declared.state.Seeking.{Seeking}
 use Rattle.router_state.specs.declared.state.Session.{Session}
 use Rattle.router_state.specs.declared.state.Transaction.{Transaction}
 use Rattle.router_state.specs.Deeds.{nothing, in_session, stays}
-use Rattle.router_state.specs.State.{Post, asker_of, is_from, commit_sent, is_unfinished}
-use Rattle.router_state.specs.State.{is_waited, without, boot_of}
+use Rattle.router_state.specs.State.{Post, asker_of, is_from, commit_sent, is_unfinished, is_waited}
+use Rattle.router_state.specs.State.{without, boot_of}
 use Rattle.router_state.specs.Shards.{writers, readers, has_written}
 use Rattle.router_rules.specs.Commits as co
 use Rattle.router_rules.specs.Ends as en
 use Rattle.router_rules.specs.Serving.{ended_in}
 use Rattle.router_rules.specs.Tokens as tk
 use Rattle.participant.proofs.Cases.{either}
-use Rattle.answer_laws.proofs.Lists.{one, each}
+use Rattle.world_laws.proofs.Naming.{one, each}
 use Rattle.one_shard_laws.specs.Asking.{OneWrote}
-use Rattle.commit_laws.proofs.Follows.{Heard, Commits, AllCommit, MsgCommits, Follows}
-use Rattle.commit_laws.proofs.Follows.{IsPast, IsNoAsk, NoneAsk, FromDoing, SendsOf, DeedFrom}
-use Rattle.commit_laws.proofs.Follows.{DoingFollows}
+use Rattle.commit_laws.proofs.Follows.{Heard, Commits, AllCommit, MsgCommits, Follows, IsPast}
+use Rattle.commit_laws.proofs.Follows.{IsNoAsk, NoneAsk, FromDoing, SendsOf, DeedFrom, DoingFollows}
 
 pub no_asks : NoneAsk []
 no_asks = All-nil (λ (post : Post). IsNoAsk post.1)

@@ -1,7 +1,7 @@
 -- What stands of all routers and of all that was sent is kept by a router's step.
-use Rattle.std.proofs.Common.{◌≡◌, ◌⊎◌, inl, inr, ◌<◌, ◌++◌, ℕ, All, List, [], ◌∷◌, map}
-use Rattle.std.proofs.Common.{length, Some, None, refl, sym, ap, subst, ◌∙◌, arith, zero}
-use Rattle.std.proofs.Common.{suc, false, true, ◌&&◌, nat_eq}
+use Rattle.std.proofs.Common.{◌≡◌, ◌⊎◌, inl, inr, ◌<◌, ◌++◌, ℕ, All, List, [], ◌∷◌, map, length}
+use Rattle.std.proofs.Common.{Some, None, refl, sym, ap, subst, ◌∙◌, arith, zero, suc, false, true}
+use Rattle.std.proofs.Common.{◌&&◌, nat_eq}
 use Rattle.std.specs.Prelude.{Contains, slice_get, slice_set}
 use Rattle.std.proofs.lemmas.List.Elements.{All-contains, Contains-append_left}
 use Rattle.std.proofs.lemmas.List.Elements.{Contains-append_cases}
@@ -36,7 +36,7 @@ use Rattle.cluster_core.specs.Answering.{opened, taken_what, taken_msg}
 use Rattle.cluster_core.specs.Nodes.{Nodes}
 use Rattle.cluster_core.specs.Routers.{request_at}
 use Rattle.cluster_core.specs.Trace.{MayCome}
-use Rattle.answer_laws.proofs.Going.{some_same}
+use Rattle.world_laws.proofs.Going.{some_same}
 use Rattle.answer_laws.proofs.Lists.{both_true}
 use Rattle.told_laws.specs.Places.{IsOpened}
 use Rattle.told_laws.proofs.Lists.{contained, set_cases}
@@ -49,8 +49,8 @@ use Rattle.commit_laws.specs.Speaking.{Gave, StatementFollows, CommitFollows, Ms
 use Rattle.commit_laws.proofs.Follows.{Asked, Follows, DoingFollows, IsPast, IsNoAsk}
 use Rattle.commit_laws.proofs.Moves.{SessionFrom, Came, SentFrom, MoveFrom}
 use Rattle.commit_laws.proofs.Requests.{Ready, MsgGiven, WhatGiven, happened_from}
-use Rattle.commit_laws.proofs.Standing.{ArePast, RouterStand, Stand, follows_on, msg_on}
-use Rattle.commit_laws.proofs.Standing.{no_ask, not_commit}
+use Rattle.commit_laws.proofs.Standing.{ArePast, RouterStand, Stand, follows_on, msg_on, no_ask}
+use Rattle.commit_laws.proofs.Standing.{not_commit}
 use Rattle.commit_laws.proofs.Stepping.{move_of, did, post_of, state_of, was_opened, IsCommitting}
 use Rattle.commit_laws.proofs.Stepping.{IsAskingFor, commit_case, statement_case, gives}
 

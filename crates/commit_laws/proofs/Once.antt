@@ -1,6 +1,6 @@
 -- Lists under sessions, each of which stands there once.
-use Rattle.std.proofs.Common.{◌≡◌, inl, inr, Bool, true, false, [], ◌∷◌}
-use Rattle.std.proofs.Common.{Some, None, refl, sym, ap, subst, ◌∙◌, arith}
+use Rattle.std.proofs.Common.{◌≡◌, inl, inr, Bool, true, false, [], ◌∷◌, Some, None, refl, sym, ap}
+use Rattle.std.proofs.Common.{subst, ◌∙◌, arith}
 use Rattle.std.specs.Prelude.{Contains}
 use Rattle.std.proofs.lemmas.List.Elements.{Contains-append_cases}
 use Rattle.txn_types.specs.BySession.{BySession, entry_of, with_entry}
@@ -11,7 +11,7 @@ use Rattle.router_state.specs.declared.state.Session.{Session}
 use Rattle.router_state.specs.Deeds.{each_session}
 use Rattle.router_state.specs.State.{Post}
 use Rattle.shard_image.proofs.Sessions.{own_lsid, lsid_is, entry_elsewhere}
-use Rattle.answer_laws.proofs.Going.{first_is, rest_is}
+use Rattle.world_laws.proofs.Going.{first_is, rest_is}
 use Rattle.answer_laws.proofs.Lists.{has_first, has_more}
 use Rattle.told_laws.proofs.Lists.{has_cases}
 

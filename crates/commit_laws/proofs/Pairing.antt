@@ -1,7 +1,7 @@
 -- Where the statements of a transaction that a shard served in one boot are those that were
 -- answered, what they wrote is what these mean.
-use Rattle.std.proofs.Common.{◌≡◌, inl, inr, ◌++◌, ◌<◌, ℕ, Bool, true, false, List}
-use Rattle.std.proofs.Common.{[], ◌∷◌, All, filter, nat_eq, refl, sym, ap, ap₂, subst, ◌∙◌, arith}
+use Rattle.std.proofs.Common.{◌≡◌, inl, inr, ◌++◌, ◌<◌, ℕ, Bool, true, false, List, [], ◌∷◌, All}
+use Rattle.std.proofs.Common.{filter, nat_eq, refl, sym, ap, ap₂, subst, ◌∙◌, arith}
 use Rattle.std.specs.Prelude.{Contains}
 use Rattle.std.proofs.lemmas.List.{append-nil}
 use Rattle.std.proofs.lemmas.List.Elements.{All-nil, All-contains, Contains-append_left}
@@ -18,9 +18,9 @@ use Rattle.txn_semantics.specs.Rows.{under}
 use Rattle.txn_semantics.specs.View.{view}
 use Rattle.part_laws.specs.Now.{AreRight}
 use Rattle.part_laws.specs.Sound.{Served, is_of_life, written}
-use Rattle.answer_laws.proofs.Lists.{both_true, tag_is, nat_is, has_first, has_more}
-use Rattle.told_laws.proofs.Lists.{InOrder, has_cases, only_one}
-use Rattle.told_laws.proofs.Lists.{order_append}
+use Rattle.answer_laws.proofs.Lists.{both_true, nat_is, has_first, has_more}
+use Rattle.world_laws.proofs.Naming.{tag_is}
+use Rattle.told_laws.proofs.Lists.{InOrder, has_cases, only_one, order_append}
 
 -- The statements of a transaction with the newest first.
 

@@ -1,7 +1,7 @@
 -- What a request, a message of a shard, the end of a connection and a resend do at a router.
-use Rattle.std.proofs.Common.{◌≡◌, ◌⊎◌, inl, inr, ℕ, ℤ, Bool, true, false, not}
-use Rattle.std.proofs.Common.{List, [], ◌∷◌, ◌++◌, map, Option, Some, None, Result, Ok, Err}
-use Rattle.std.proofs.Common.{refl, sym, ap, ap₂, subst, ◌∙◌, arith, if◌then◌else◌}
+use Rattle.std.proofs.Common.{◌≡◌, ◌⊎◌, inl, inr, ℕ, ℤ, Bool, true, false, not, List, [], ◌∷◌, ◌++◌}
+use Rattle.std.proofs.Common.{map, Option, Some, None, Result, Ok, Err, refl, sym, ap, ap₂, subst}
+use Rattle.std.proofs.Common.{◌∙◌, arith, if◌then◌else◌}
 use Rattle.std.specs.Prelude.{Contains, flat_map}
 use Rattle.std.specs.List.{range_with_len}
 use Rattle.std.specs.Ordering.{is_lt}
@@ -33,8 +33,7 @@ use Rattle.router_state.specs.declared.state.Phase.TheVariants.{Committed, Relea
 use Rattle.router_state.specs.declared.state.Seeking.{Seeking}
 use Rattle.router_state.specs.declared.state.Session.{Session}
 use Rattle.router_state.specs.declared.state.Transaction.{Transaction}
-use Rattle.router_state.specs.Deeds.{Move, still, answers, done_in, nothing}
-use Rattle.router_state.specs.Deeds.{sending}
+use Rattle.router_state.specs.Deeds.{Move, still, answers, done_in, nothing, sending}
 use Rattle.router_state.specs.State.{Post, RouterState, session_of, is_waiting, is_from, asker_of}
 use Rattle.router_state.specs.State.{asker_in, commit_sent}
 use Rattle.router_rules.specs.Commits as co
@@ -49,25 +48,22 @@ use Rattle.router_plan.specs.declared.message.Unserved.TheVariants as un
 use Rattle.router_plan.specs.Messages.{asked_in}
 use Rattle.router_plan.specs.Plans.{told_also}
 use Rattle.router_plan.specs.Refusals.{begun_in, statement_refusal, commit_refusal, abort_refusal}
-use Rattle.router_plan.specs.Refusals.{is_so}
-use Rattle.router_plan.specs.Refusals.{is_elsewhere, is_aborted}
+use Rattle.router_plan.specs.Refusals.{is_so, is_elsewhere, is_aborted}
 use Rattle.router_core.specs.Requests as rq
 use Rattle.router_core.specs.Step as sp
 use Rattle.participant.proofs.Cases.{either}
-use Rattle.answer_laws.proofs.Beginning.{is_begun}
+use Rattle.world_laws.proofs.Beginning.{is_begun}
 use Rattle.answer_laws.proofs.Lists.{has_first, has_more}
 use Rattle.told_laws.proofs.Lists.{has_cases, map_has, only_one}
 use Rattle.told_laws.proofs.Moves.{done_there, not_waiting, Passes, passes}
 use Rattle.commit_laws.proofs.Once.{OnceUnder, put_once, stands_here}
 use Rattle.commit_laws.proofs.Follows.{Follows, DoingFollows, IsPast, IsNoAsk, NoneAsk, DeedFrom}
 use Rattle.commit_laws.proofs.Deeds.{no_asks, none_twice, leaves_none, commit_asked_from}
-use Rattle.commit_laws.proofs.Deeds.{ended_from}
-use Rattle.commit_laws.proofs.Deeds.{client_aborts_from, session_from, gone_from, seeks_from}
-use Rattle.commit_laws.proofs.Deeds.{anew_new}
+use Rattle.commit_laws.proofs.Deeds.{ended_from, client_aborts_from, session_from, gone_from}
+use Rattle.commit_laws.proofs.Deeds.{seeks_from, anew_new}
 use Rattle.commit_laws.proofs.Answering.{IsGiven, answered_from}
 use Rattle.commit_laws.proofs.Asking.{asks_follow}
-use Rattle.commit_laws.proofs.Moves.{RouterFollows, SessionKept, SentFrom, MoveFrom}
-use Rattle.commit_laws.proofs.Moves.{EndsFrom}
+use Rattle.commit_laws.proofs.Moves.{RouterFollows, SessionKept, SentFrom, MoveFrom, EndsFrom}
 use Rattle.commit_laws.proofs.Moves.{done_from, deed_from, still_from, each_move, kept_then}
 use Rattle.commit_laws.proofs.Moves.{ends_move, ends_follow, deed_kept, self_kept}
 

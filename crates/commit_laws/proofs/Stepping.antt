@@ -1,9 +1,8 @@
 -- A router's step keeps what stands: what goes out a session waits for, and so it tells of what was
 -- answered; and no statement is opened after a commit.
-use Rattle.std.proofs.Common.{◌≡◌, inl, inr, ◌++◌, ◌&&◌, ℕ, Bool, true}
-use Rattle.std.proofs.Common.{false, List, [], ◌∷◌, map, filter, filter_map, length}
-use Rattle.std.proofs.Common.{nat_eq, is_some, Option, Some, None, Ok, refl, sym, ap, ap₂, subst}
-use Rattle.std.proofs.Common.{◌∙◌, arith}
+use Rattle.std.proofs.Common.{◌≡◌, inl, inr, ◌++◌, ◌&&◌, ℕ, Bool, true, false, List, [], ◌∷◌, map}
+use Rattle.std.proofs.Common.{filter, filter_map, length, nat_eq, is_some, Option, Some, None, Ok}
+use Rattle.std.proofs.Common.{refl, sym, ap, ap₂, subst, ◌∙◌, arith}
 use Rattle.std.specs.Prelude.{Contains, IsOk}
 use Rattle.std.specs.List.{list_all}
 use Rattle.std.specs.Ordering.{nat_cmp}
@@ -40,20 +39,18 @@ use Rattle.router_state.specs.State.{Post, RouterState, is_waited}
 use Rattle.router_rules.specs.Times.{walled}
 use Rattle.router_plan.specs.Spelling.{letter_of}
 use Rattle.router_core.specs.Step as sp
-use Rattle.cluster_core.specs.Answering.{Unanswered, with_answer, is_complete, all_say}
-use Rattle.cluster_core.specs.Answering.{meaning_in, read_at_of, answered_of, answered_among}
-use Rattle.cluster_core.specs.Answering.{opened, opened_by, statement_in}
-use Rattle.cluster_core.specs.Answering.{statements_in}
+use Rattle.cluster_core.specs.Answering.{Unanswered, with_answer, is_complete, all_say, meaning_in}
+use Rattle.cluster_core.specs.Answering.{read_at_of, answered_of, answered_among, opened, opened_by}
+use Rattle.cluster_core.specs.Answering.{statement_in, statements_in}
 use Rattle.cluster_core.specs.Routers.{Asked as Request_}
 use Rattle.answer_laws.specs.Comes.{IsOfOne}
-use Rattle.answer_laws.proofs.Lists.{both_true, tag_is, nat_is, has_first, has_more}
+use Rattle.answer_laws.proofs.Lists.{both_true, nat_is, has_first, has_more}
+use Rattle.world_laws.proofs.Naming.{tag_is}
 use Rattle.told_laws.proofs.Lists.{has_map, map_has, has_filter, only_one, has_cases}
 use Rattle.told_laws.proofs.Quiet.{IsSettled}
 use Rattle.told_laws.proofs.Standing as sn
-use Rattle.told_laws.proofs.Standing.{AllReplied, BookStands, TxnStands, DoingStands, replied_if}
 use Rattle.commit_laws.specs.Speaking.{Gave, StatementFollows}
-use Rattle.commit_laws.proofs.Follows.{Heard, Next, Commits, MsgCommits, Follows}
-use Rattle.commit_laws.proofs.Follows.{IsPast}
+use Rattle.commit_laws.proofs.Follows.{Heard, Next, Commits, MsgCommits, Follows, IsPast}
 use Rattle.told_laws.proofs.Answering.{takes, for_asked, with_yes}
 
 -- What goes out.

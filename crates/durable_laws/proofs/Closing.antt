@@ -28,6 +28,7 @@ use Rattle.part_laws.proofs.Moving.{live_taken}
 use Rattle.durable_laws.proofs.Whole.{LiveHas, PendingHas, IsWhole}
 use Rattle.durable_laws.specs.Backed.{AreApart}
 use Rattle.durable_laws.proofs.Beside.{Beside, over_kept}
+use Rattle.part_laws.proofs.Chains.{not_true}
 
 -- Sessions that stand once.
 
@@ -135,10 +136,6 @@ pub record Closes (p q : Part) (lsid : Lsid) (s : Session) (st : SessionState) :
   pub live : q.live ≡ taken_out lsid_cmp lsid p.live
   pub pending : q.pending ≡ filter (λ other. not (same_tag other.tag s.tag)) p.pending
   pub beside : Beside s.tag p.store q.store
-
-not_true : (b : Bool) → not b ≡ true → b ≡ false
-not_true true h = cc
-not_true false h = refl
 
 module _ (p q : Part) (last later : ℕ) (lsid : Lsid) (s : Session) (st : SessionState)
     (whole : IsWhole p last) (there : session p lsid ≡ Some s) (so : is_open s.state ≡ true)

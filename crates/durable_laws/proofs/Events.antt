@@ -2,8 +2,6 @@
 use Rattle.std.proofs.Common.{◌≡◌, ◌<◌, ◌-◌, ℕ, Bool, true, false, List, [], ◌∷◌, Option, Some}
 use Rattle.std.proofs.Common.{None, refl, ap, subst, ◌∙◌, sym, arith, nat_eq, nat_le, nat_lt}
 use Rattle.std.proofs.Common.{int_lt, if◌then◌else◌}
-use Rattle.std.specs.Ordering.{is_eq, ordering_reverse}
-use Rattle.std.specs.declared.cmp.Ordering.TheVariants.{Less}
 use Rattle.txn_types.specs.Clock.{next_time, ticked, last_time}
 use Rattle.txn_types.specs.Order.{same_tag, same_lsid, lsid_cmp}
 use Rattle.txn_types.specs.declared.cause.Cause.{Cause}
@@ -18,7 +16,6 @@ use Rattle.txn_types.specs.declared.message.Recover.{Recover}
 use Rattle.txn_types.specs.declared.names.Tag.{Tag}
 use Rattle.txn_types.specs.declared.node.Lsid.{Lsid}
 use Rattle.txn_types.specs.declared.write.Write.{Write}
-use Rattle.txn_types.proofs.Orders.{lsid_total, lsid_exact}
 use Rattle.txn_semantics.specs.Keyed.{AllAbove, Rises}
 use Rattle.session_table.specs.declared.session.Session.{Session}
 use Rattle.session_table.specs.declared.session.SessionState.{SessionState}
@@ -38,18 +35,18 @@ use Rattle.participant.specs.Expiry.{lifetime, expire_all, expire}
 use Rattle.participant.specs.Memory.{ends_own, ends_session, ended_for_memory}
 use Rattle.participant.proofs.Cases.{either}
 use Rattle.participant.proofs.Following.{either_is}
-use Rattle.participant.proofs.Ends.{entry_without}
 use Rattle.participant.proofs.Statements.{has_live}
 use Rattle.part_laws.specs.Each.{Each}
 use Rattle.part_laws.specs.Looked.{looked}
 use Rattle.part_laws.proofs.Chains.{each_weaker, each_both}
-use Rattle.part_laws.proofs.Looking.{eq_self, looked_is_found}
+use Rattle.part_laws.proofs.Looking.{looked_is_found}
 use Rattle.shard_image.specs.Image.{Image}
 use Rattle.shard_core.specs.Participating.{decided_record}
 use Rattle.durable_laws.proofs.Whole.{IsWhole}
 use Rattle.durable_laws.proofs.Holding.{HoldsPart, Left}
 use Rattle.durable_laws.proofs.Ends.{abort_left, release_left, commit_left, IsFrom, decide_left}
 use Rattle.durable_laws.proofs.Preparing.{prepare_left}
+use Rattle.part_laws.proofs.Elapsed.{other_live, above_apart, all_looked}
 
 tick_case : (test : Bool) (n at last : ℕ) (start : Option ℕ) → start ≡ None
     → (if test then start else Some n) ≡ Some at → last < n → last < at
@@ -290,20 +287,6 @@ end_one i p last lsid why o whole holds mine =
     let has = has_live p lsid o whole.stands mine in
     end_case i p last lsid why has.s (session p lsid) whole holds refl has.there has.live
 
-other_live : (p : Part) (lsid other : Lsid) (why : Cause) (s : Option Session)
-    → same_lsid other lsid ≡ false → open_of (ends_live p lsid why s) other ≡ open_of p other
-other_live p lsid other why None apart = refl
-other_live p lsid other why (Some s) apart = entry_without other lsid apart p.live
-
-less_apart : (a b : Lsid) → lsid_cmp a b ≡ Less → same_lsid b a ≡ false
-less_apart a b less = ap is_eq (lsid_total.antisymm b a ∙ ap ordering_reverse less)
-
-above_apart : (lsid : Lsid) (rest : List (Lsid × Open)) → AllAbove lsid_cmp lsid rest
-    → Each (λ (entry : Lsid × Open). same_lsid entry.0 lsid ≡ false) rest
-above_apart lsid [] above = tt
-above_apart lsid (entry ∷ rest) above =
-    (less_apart lsid entry.0 above.0, above_apart lsid rest above.1)
-
 abbrev AreLive : Part → List (Lsid × Open) → Type 0
 AreLive p rest = Each (λ (entry : Lsid × Open). open_of p entry.0 ≡ Some entry.1) rest
 
@@ -334,25 +317,6 @@ expire_rest i wall [] p last whole holds rises live =
 expire_rest i wall (entry ∷ rest) p last whole holds rises live =
     expire_case i wall entry rest p last (nat_lt lifetime (wall - entry.1.begun)) whole holds
     rises.0 live (λ q w h l. expire_rest i wall rest q last w h rises.1 l)
-
-looked_case : (entry : Lsid × Open) (rest : List (Lsid × Open)) (other : Lsid × Open)
-    → same_lsid other.0 entry.0 ≡ false → looked lsid_cmp other.0 rest ≡ Some other.1
-    → looked lsid_cmp other.0 (entry ∷ rest) ≡ Some other.1
-looked_case entry rest other apart there =
-    ap (λ b. if b then Some entry.1 else looked lsid_cmp other.0 rest) apart ∙ there
-
-all_looked : (rest : List (Lsid × Open)) → Rises lsid_cmp rest
-    → Each (λ (entry : Lsid × Open). looked lsid_cmp entry.0 rest ≡ Some entry.1) rest
-all_looked [] rises = tt
-all_looked (entry ∷ rest) rises = (
-  ap (λ b. if b then Some entry.1 else looked lsid_cmp entry.0 rest)
-      (eq_self lsid_cmp lsid_total lsid_exact entry.0),
-  each_both (λ (other : Lsid × Open). same_lsid other.0 entry.0 ≡ false)
-      (λ (other : Lsid × Open). looked lsid_cmp other.0 rest ≡ Some other.1)
-      (λ (other : Lsid × Open). looked lsid_cmp other.0 (entry ∷ rest) ≡ Some other.1)
-      (λ other apart there. looked_case entry rest other apart there) rest
-      (above_apart entry.0 rest rises.0) (all_looked rest rises.1),
-)
 
 pub all_live : (p : Part) → Rises lsid_cmp p.live → AreLive p p.live
 all_live p rises =

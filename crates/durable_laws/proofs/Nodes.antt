@@ -18,7 +18,7 @@ use Rattle.durable_laws.proofs.Stepping.{step_is_shard, step_is_backed, step_is_
 use Rattle.durable_laws.proofs.Stepping.{fault_is_backed, behind_both, with_hand}
 use Rattle.durable_laws.proofs.Beginning.{started_case, start_backed, start_finds}
 
-append_none : (xs : List Rec) → xs ++ [] ≡ xs
+pub append_none : (xs : List Rec) → xs ++ [] ≡ xs
 append_none [] = refl
 append_none (x ∷ xs) = ap (λ (l : List Rec). x ∷ l) (append_none xs)
 

@@ -2,10 +2,10 @@
 -- is known.
 use Rattle.std.proofs.Common.{◌≡◌, ℕ, ℤ, max, nat_eq, map, All, List, [], ◌∷◌, Option, Some, None}
 use Rattle.std.proofs.Common.{IfSome, option_map, option_and_then, unwrap_or, is_some, not, Result}
-use Rattle.std.proofs.Common.{Ok, Err, refl, sym, subst}
+use Rattle.std.proofs.Common.{Err, refl, sym, subst}
 use Rattle.std.proofs.lemmas.List.Elements.{All-nil, All-head, All-tail, All-append, All-map}
 use Rattle.std.proofs.lemmas.List.Elements.{All-filter}
-use Rattle.txn_types.specs.Letters.{Letter, sent_by}
+use Rattle.txn_types.specs.Letters.{Letter, sent_by, Named, given_out, named_in}
 use Rattle.txn_types.specs.Order.{same_tag, tag_cmp}
 use Rattle.txn_types.specs.declared.cause.Cause.{Cause}
 use Rattle.txn_types.specs.declared.cause.Cause.TheVariants as cause
@@ -62,7 +62,6 @@ use Rattle.shard_core.specs.Wanting.{wanting, Wanting, told_if, told_memory, may
 use Rattle.shard_core.specs.Core.{Room, Ample, Scarce, Short, CoreStep, core_step, step_if, stepped}
 use Rattle.shard_core.specs.Core.{stays, entered, happened, scarce, running_step, stopped_step}
 use Rattle.shard_core.specs.Core.{answer_stopped, says_stopped, gives_out, answer_of}
-use Rattle.txn_types.specs.Letters.{Named, given_out, named_in}
 use Rattle.known_laws.specs.Known.{PartNamed, RecNamed, PartsKnown, AskedKnown, KnownTo}
 use Rattle.known_laws.specs.Known.{LetterKnown, EnvKnown, EventKnown, PlanKnown, PlansKnown}
 use Rattle.known_laws.specs.Known.{BeginsKnown, Answered}
@@ -70,7 +69,7 @@ use Rattle.known_laws.proofs.Sessions.{Moves, TurnMoves, Own, stays as part_stay
 use Rattle.known_laws.proofs.Sessions.{aborted_moves, statement_moves, expire_moves, memory_moves}
 use Rattle.known_laws.proofs.Sessions.{abort_moves, recover_moves, decide_moves, commit_moves}
 use Rattle.known_laws.proofs.Sessions.{prepare_moves}
-use Rattle.world_laws.proofs.Naming.{one, each, each_of, put_all, taken_all, found}
+use Rattle.world_laws.proofs.Naming.{one, each, each_of, put_all, taken_all, found, vote_plan}
 
 -- what a rule leaves, records and sends
 pub record RuledKnown (P : Named → Type 0) (B : ℕ → ℕ → Named → Type 0) (s : ShardState)
@@ -284,11 +283,6 @@ starts_new_known P B s router m (Some own) is p c =
     either (same_tag own.tag m.tag) (RuledKnown P B s) (starts_own s router m own own.state)
     (is_lost s router m) (starts_own_known P B s router m own own.state is p c)
     (told_known P B s router m.tag _ c)
-
-vote_plan : (shard : ℕ) (vote : Result ℕ Cause) (c : Coordinated)
-    → (behind_vote shard vote c).plan ≡ c.plan
-vote_plan shard (Ok at) c = refl
-vote_plan shard (Err why) c = refl
 
 voted_known : (B : ℕ → ℕ → Named → Type 0) (tag : Tag) (shard : ℕ) (vote : Result ℕ Cause)
     (c : Coordinated) (coords : Coordinations) → PlanKnown B (tag, c) → PlansKnown B coords

@@ -38,7 +38,7 @@ use Rattle.session_table.specs.declared.session.SessionState.TheVariants as stat
 use Rattle.version_store.specs.Versions.{scan, conflict}
 use Rattle.version_store.specs.declared.version.Held.{Held}
 use Rattle.participant.specs.declared.said.Open.{Open}
-use Rattle.participant.specs.declared.said.Said.TheVariants.{Did, Blocked, Refused, Late}
+use Rattle.participant.specs.declared.said.Said.TheVariants.{Did, Refused, Late}
 use Rattle.participant.specs.Part.{Part, session, open_of, closed, without_live, aborted, ends_live}
 use Rattle.participant.specs.Part.{is_replaced}
 use Rattle.participant.specs.Statement as stm
@@ -55,6 +55,7 @@ use Rattle.participant.proofs.Moving.{entry_here}
 use Rattle.participant.proofs.Tags.{lsid_same, tag_same}
 use Rattle.txn_types.specs.Letters.{Named}
 use Rattle.known_laws.specs.Known.{PartNamed, SessionNamed}
+use Rattle.live_laws.proofs.Steps.{no_refused, no_blocked, no_late}
 
 -- An entry stands under its session.
 
@@ -232,17 +233,6 @@ HasTag p m = (s : Session) × (session p m.lsid ≡ Some s) × (s.tag ≡ m.tag)
 pub record TurnMoves (P : Named → Type 0) (p : Part) (m : Statement) (t : stm.Turn) : Type 0 where
   pub moves : Moves P p t.1
   pub did : (at : ℕ) (reply : OpReply) (wrote : Bool) → t.0 ≡ Did at reply wrote → HasTag t.1 m
-
-no_refused : (why : Cause) (read_at at : ℕ) (reply : OpReply) (wrote : Bool)
-    → Refused why read_at ≡ Did at reply wrote → ⊥
-no_refused why read_at at reply wrote e = cc
-
-no_blocked : (held : Held) (at : ℕ) (reply : OpReply) (wrote : Bool)
-    → Blocked held ≡ Did at reply wrote → ⊥
-no_blocked held at reply wrote e = cc
-
-no_late : (at : ℕ) (reply : OpReply) (wrote : Bool) → Late ≡ Did at reply wrote → ⊥
-no_late at reply wrote e = cc
 
 -- what is refused, and what comes too late, isn't done
 refused_moves : (P : Named → Type 0) (p : Part) (m : Statement) (why : Cause) (at : ℕ) (q : Part)

@@ -54,7 +54,7 @@ use Rattle.shard_core.specs.Effect.{plan_name}
 use Rattle.world_laws.specs.Joint.{Stands, NoName, DisksStand}
 use Rattle.world_laws.specs.Tags.{BeginsNamed}
 use Rattle.world_laws.proofs.Clocks.{started_is, each_set, each_same}
-use Rattle.world_laws.proofs.Joint.{stands_step}
+use Rattle.world_laws.proofs.Joint.{stands_step, all_front}
 use Rattle.live_laws.specs.Live.{LiveStands}
 use Rattle.live_laws.proofs.Standing.{live_part}
 use Rattle.known_laws.specs.Known.{PartNamed, SessionNamed, RecNamed, PartsKnown, AskedKnown}
@@ -68,6 +68,8 @@ use Rattle.known_laws.proofs.Sending.{Fits, FitsAt, router_known}
 use Rattle.known_laws.proofs.Sessions.{Goes, entries_put, session_named}
 use Rattle.world_laws.proofs.Naming.{one, put_all, taken_all, found}
 use Rattle.world_laws.proofs.Lists.{get_set, set_at}
+use Rattle.world_laws.proofs.Boots.{core_by, image_on}
+use Rattle.world_laws.proofs.NodeRecords.{some_is}
 
 -- What is said of boots and answers, where more is said of each.
 
@@ -322,12 +324,6 @@ tells_on old new grows all once each a h =
 
 -- A shard's step.
 
-core_by : (P : ShardState → Type 0) (old : NodeState) (o : CoreStep) (a : NodeAnswer)
-    (new : NodeState) → P o.core → ((stopped : Option ℕ) → P (record o.core { stopped = stopped }))
-    → (Appended old o a new ⊎ Failed old o a new) → P new.core
-core_by P old o a new h k (inl d) = subst P (sym d.core) h
-core_by P old o a new h k (inr d) = subst P (sym d.core) (k (Some new.faults))
-
 record Stepped (P : Named → Type 0) (B : ℕ → ℕ → Named → Type 0) (old new : NodeState)
     (given : List Envelope) : Type 0 where
   holds : Holds P B new
@@ -391,11 +387,6 @@ takes_known P B A old e a new h named b s =
 
 -- A start of a shard. (That a start comes to the next boot stands in world_laws, in lemmas that
 -- aren't public.)
-
-image_on : (i : Image) (a b : List Rec)
-    → image.with_records i (a ++ b) ≡ image.with_records (image.with_records i a) b
-image_on i [] b = refl
-image_on i (r ∷ a) b = image_on (image.with_record i r) a b
 
 record_boot : (i : Image) (r : Rec) → IsNoBoot r → (image.with_record i r).boot ≡ i.boot
 record_boot i (rec.Boot boot) h = absurd h
@@ -596,9 +587,6 @@ fits_at nodes n other h = tt
 
 -- Each event.
 
-some_is : {A : Type 0} (x y : A) → Some x ≡ Some y → x ≡ y
-some_is x y e = grind arith
-
 turn_set : (old new : Nodes) (n : ℕ) (before after : NodeState)
     → slice_get old.shards n ≡ Some before → new.shards ≡ slice_set old.shards n after
     → Turns before after → AllTurn old new
@@ -775,11 +763,6 @@ known_run old (ran ∷ run) (nodes ∷ trace) new h s c =
 begins_none : (B : ℕ → ℕ → Named → Type 0) (r : Rec) → BeginsNamed NoName r → BeginsKnown B r
 begins_none B (rec.CoordStart tag lsid number parts) h = absurd h
 begins_none B other h = tt
-
-all_front : {A : Type 0} (P : A → Type 0) (xs ys : List A) → All P (xs ++ ys) → All P xs
-all_front P [] ys h = All-nil P
-all_front P (x ∷ xs) ys h =
-    All-cons P x xs (All-head P x (xs ++ ys) h) (all_front P xs ys (All-tail P x (xs ++ ys) h))
 
 front_of : (Q : Rec → Type 0) (number : ℕ) (recs : List Rec) (faults : ℕ) (n : NodeState)
     → started number recs faults ≡ Some n → All Q n.records → All Q recs

@@ -1,8 +1,7 @@
 -- Each event keeps that live transactions are as they were answered.
 use Rattle.std.proofs.Common.{◌≡◌, inl, inr, ◌++◌, ℕ, suc, zero, All, List, [], ◌∷◌, Some, None}
-use Rattle.std.proofs.Common.{sym, ap, subst, ◌∙◌, get_or, arith}
-use Rattle.std.specs.Prelude.{slice_get, Contains}
-use Rattle.std.proofs.lemmas.Option.{slice_get-get_or}
+use Rattle.std.proofs.Common.{sym, ap, subst, ◌∙◌, arith}
+use Rattle.std.specs.Prelude.{Contains}
 use Rattle.std.proofs.lemmas.List.Elements.{All-nil, All-weaker}
 use Rattle.txn_types.specs.declared.event.NodeAnswer.{NodeAnswer}
 use Rattle.txn_types.specs.declared.event.NodeEvent.{NodeEvent}
@@ -26,6 +25,7 @@ use Rattle.world_laws.proofs.Clocks.{started_is, each_set, each_same}
 use Rattle.live_laws.specs.Live.{LiveStands}
 use Rattle.live_laws.proofs.Opens.{AllLive}
 use Rattle.live_laws.proofs.Steps.{AnsweredIn, step_live}
+use Rattle.world_laws.proofs.Lists.{all_places}
 
 -- of a shard, by the list of what was sent
 abbrev LiveIn : List Envelope → NodeState → Type 0
@@ -131,11 +131,6 @@ live_run old (ran ∷ run) (nodes ∷ trace) new h c =
 pub live_fresh : (chunks : Map) (nodes : Nodes) → IsFresh chunks nodes → LiveStands nodes
 live_fresh chunks nodes h number n e = let s = h.shards number n e in
     starts_live nodes.sent number s.0 s.1 n s.2
-
--- what holds at each place holds of all
-all_places : {A : Type 0} (P : A → Type 0) (xs : List A)
-    → ((i : ℕ) (x : A) → slice_get xs i ≡ Some x → P x) → All P xs
-all_places P xs h k d l = h k (get_or xs k d) (slice_get-get_or xs k d l)
 
 pub live_part : (nodes : Nodes) → LiveStands nodes → All (LiveAsAnswered nodes) nodes.shards
 live_part nodes c = all_places (LiveAsAnswered nodes) nodes.shards c

@@ -4,7 +4,7 @@ use Rattle.std.proofs.Common.{◌≡◌, ℕ, ℤ, Bool, ◌∙◌, max, nat_eq,
 use Rattle.std.proofs.Common.{option_map, option_and_then, unwrap_or, IfSome, Ok, refl, sym, ap}
 use Rattle.std.proofs.Common.{subst, arith}
 use Rattle.std.specs.Prelude.{Contains}
-use Rattle.txn_types.specs.Letters.{sent_by}
+use Rattle.txn_types.specs.Letters.{sent_by, given_out}
 use Rattle.txn_types.specs.Order.{same_tag}
 use Rattle.txn_types.specs.declared.cause.Cause.{Cause}
 use Rattle.txn_types.specs.declared.cause.Cause.TheVariants as cause
@@ -50,7 +50,6 @@ use Rattle.shard_core.specs.Wanting.{wanting, Wanting, told_if, told_memory, may
 use Rattle.shard_core.specs.Core.{Room, Ample, Scarce, Short, CoreStep, core_step, step_if, stepped}
 use Rattle.shard_core.specs.Core.{stays, entered, happened, scarce, running_step, stopped_step}
 use Rattle.shard_core.specs.Core.{answer_of}
-use Rattle.txn_types.specs.Letters.{given_out}
 use Rattle.live_laws.proofs.Opens.{AllLive, Keeps, TurnKeeps, same, aborted_keeps, statement_keeps}
 use Rattle.live_laws.proofs.Opens.{expire_keeps, memory_keeps, abort_keeps, recover_keeps}
 use Rattle.live_laws.proofs.Opens.{decide_keeps, commit_keeps, prepare_keeps}
@@ -95,15 +94,15 @@ abbrev told_in : OpReply × Bool → Said → OpReply × Bool
 told_in other (Did at reply wrote) = (reply, wrote)
 told_in other said = other
 
-no_blocked : (held : Held) (at : ℕ) (reply : OpReply) (wrote : Bool)
+pub no_blocked : (held : Held) (at : ℕ) (reply : OpReply) (wrote : Bool)
     → Blocked held ≡ Did at reply wrote → ⊥
 no_blocked held at reply wrote e = cc
 
-no_refused : (why : Cause) (read_at at : ℕ) (reply : OpReply) (wrote : Bool)
+pub no_refused : (why : Cause) (read_at at : ℕ) (reply : OpReply) (wrote : Bool)
     → Refused why read_at ≡ Did at reply wrote → ⊥
 no_refused why read_at at reply wrote e = cc
 
-no_late : (at : ℕ) (reply : OpReply) (wrote : Bool) → Late ≡ Did at reply wrote → ⊥
+pub no_late : (at : ℕ) (reply : OpReply) (wrote : Bool) → Late ≡ Did at reply wrote → ⊥
 no_late at reply wrote e = cc
 
 answers_live : (P : Open → Type 0) (s : ShardState) (q : Part) (to : NodeId) (m : Statement) (said :

@@ -1,12 +1,11 @@
 -- A router of a cluster of one shard asks for no commit of several.
-use Rattle.std.proofs.Common.{◌≡◌, ◌⊎◌, inl, inr, ℕ, ℤ, Bool, true, false, cond, not, ◌&&◌}
-use Rattle.std.proofs.Common.{find, filter, filter_map, option_map, refl, ap, arith}
-use Rattle.std.proofs.Common.{All, List, [], ◌∷◌, ◌++◌, map, length, nat_eq, int_lt}
-use Rattle.std.proofs.Common.{int_eq, is_none, Option, Some, None, IfSome, Result, Ok, Err, sym}
-use Rattle.std.proofs.Common.{subst}
+use Rattle.std.proofs.Common.{◌≡◌, ◌⊎◌, inl, inr, ℕ, ℤ, Bool, true, false, not, ◌&&◌, filter}
+use Rattle.std.proofs.Common.{filter_map, refl, ap, All, List, [], ◌∷◌, ◌++◌, map, length, nat_eq}
+use Rattle.std.proofs.Common.{int_lt, int_eq, is_none, Option, Some, None, IfSome, Result, Ok, Err}
+use Rattle.std.proofs.Common.{sym, subst}
 use Rattle.std.proofs.lemmas.List.Elements.{All-nil, All-cons, All-head, All-tail, All-append}
 use Rattle.std.proofs.lemmas.List.Elements.{All-map, All-filter}
-use Rattle.txn_types.specs.BySession.{BySession, entry_of, with_entry}
+use Rattle.txn_types.specs.BySession.{BySession, with_entry}
 use Rattle.txn_types.specs.Order.{same_tag, same_lsid}
 use Rattle.txn_types.specs.declared.cause.Cause.{Cause}
 use Rattle.txn_types.specs.declared.decision.Told.{Told}
@@ -22,7 +21,7 @@ use Rattle.std.specs.Ordering.{nat_cmp, is_lt}
 use Rattle.std.specs.Prelude.{flat_map}
 use Rattle.std.specs.List.{range_with_len, list_any}
 use Rattle.txn_semantics.specs.Keyed.{put}
-use Rattle.txn_types.specs.Letters.{Letter, sent_by}
+use Rattle.txn_types.specs.Letters.{Letter, sent_by, given_out}
 use Rattle.txn_types.specs.declared.event.Happening.{Happening}
 use Rattle.txn_types.specs.declared.event.Happening.TheVariants as what
 use Rattle.txn_types.specs.declared.event.NodeEvent.{NodeEvent}
@@ -47,10 +46,11 @@ use Rattle.router_core.specs.Requests as rq
 use Rattle.router_rules.specs.Resends as rs
 use Rattle.router_core.specs.Step as sp
 use Rattle.router_rules.specs.Times.{walled}
-use Rattle.router_state.specs.State.{is_waiting}
+use Rattle.router_state.specs.State.{is_waiting, Post, RouterState, asker_of, is_from, commit_sent}
+use Rattle.router_state.specs.State.{is_unfinished, is_waited, is_own, without, boot_of, token_of}
+use Rattle.router_state.specs.State.{session_of, own_session}
 use Rattle.router_plan.specs.Messages.{asked_in}
 use Rattle.op_msg.specs.Asking.{wants_reply}
-use Rattle.txn_types.specs.Letters.{given_out}
 use Rattle.participant.proofs.Cases.{either}
 use Rattle.router_state.specs.declared.state.Asker.{Asker}
 use Rattle.router_state.specs.declared.state.Phase.{Phase}
@@ -61,9 +61,6 @@ use Rattle.router_state.specs.declared.state.Seeking.{Seeking}
 use Rattle.router_state.specs.declared.state.Doing.{Doing}
 use Rattle.router_state.specs.declared.state.Doing.TheVariants.{Begun, Sought}
 use Rattle.router_state.specs.declared.state.Session.{Session}
-use Rattle.router_state.specs.State.{Post, RouterState, asker_of, is_from, commit_sent}
-use Rattle.router_state.specs.State.{is_unfinished, is_waited, is_own, without, boot_of, token_of}
-use Rattle.router_state.specs.State.{session_of, own_session}
 use Rattle.router_state.specs.declared.deed.Given.{Given}
 use Rattle.router_state.specs.declared.deed.Deed.{Deed}
 use Rattle.router_state.specs.Deeds.{nothing, aborting, telling, told, both, in_session, Move}
@@ -76,6 +73,7 @@ use Rattle.serving_laws.proofs.Lists.{one, each}
 use Rattle.one_shard_laws.specs.Alone.{IsAlone, EventAlone, IsAskedAlone}
 use Rattle.one_shard_laws.specs.Asking.{AllAsk, OneWrote, OneAnswer, PhaseAsks, TxnAsks, DoingAsks}
 use Rattle.one_shard_laws.specs.Asking.{RouterAsks, GivenAsks, DeedAsks, MoveAsks}
+use Rattle.world_laws.proofs.PartTimes.{entry_has}
 
 abbrev Asks : Post → Type 0
 Asks post = IsAskedAlone post.1
@@ -91,23 +89,6 @@ entries_put R lsid a (entry ∷ entries) this h =
     (All-cons R (lsid, a) entries this (All-tail R entry entries h))
     (All-cons R entry (with_entry lsid a entries) (All-head R entry entries h)
     (entries_put R lsid a entries this (All-tail R entry entries h)))
-
-entry_first : {A : Type 0} (R : A → Type 0) (lsid : Lsid) (entry : Lsid × A) (entries : BySession A)
-    (test : Bool) (a : A)
-    → R entry.1 → ((a : A) → entry_of lsid entries ≡ Some a → R a)
-    → option_map (λ (e : Lsid × A). e.1) (cond test (Some entry)
-    (find (λ (e : Lsid × A). same_lsid lsid e.0) entries)) ≡ Some a → R a
-entry_first R lsid entry entries true a h more e = let is : entry.1 ≡ a = grind arith in
-    subst R is h
-entry_first R lsid entry entries false a h more e = more a e
-
-entry_has : {A : Type 0} (R : A → Type 0) (lsid : Lsid) (entries : BySession A)
-    → All (λ (e : Lsid × A). R e.1) entries → (a : A) → entry_of lsid entries ≡ Some a → R a
-entry_has R lsid [] h a e = grind arith
-entry_has {A = A} R lsid (entry ∷ entries) h a e =
-    entry_first R lsid entry entries (same_lsid lsid entry.0)
-    a (All-head (λ (e : Lsid × A). R e.1) entry entries h)
-    (entry_has R lsid entries (All-tail (λ (e : Lsid × A). R e.1) entry entries h)) e
 
 -- Who wrote, and who answered.
 
@@ -164,7 +145,7 @@ writers_of answers (inr h) = subst (λ (l : List (ℕ × Answer)).
     by_writer (inl is) = inl (ap (λ (o : Option ℕ). with_writer o []) is)
     by_writer (inr is) = inr (ap (λ (o : Option ℕ). with_writer o []) is)
 
-abbrev also_wrote : List ℕ → List ℕ → List ℕ
+abbrev pub also_wrote : List ℕ → List ℕ → List ℕ
 also_wrote wrote shards = wrote ++ filter (λ shard. not (list_any (nat_eq shard) wrote)) shards
 
 wrote_one : (wrote shards : List ℕ) → OneWrote wrote → OneWrote shards

@@ -18,7 +18,7 @@ use Rattle.txn_types.specs.Letters.{Named}
 use Rattle.serving_laws.specs.Coming.{MayBegin, IsNew}
 use Rattle.one_shard_laws.specs.Sessions.{IsHeld, IsOnce}
 use Rattle.one_shard_laws.specs.Lasting.{Runs}
-use Rattle.one_shard_laws.proofs.Sessions.{same_boot}
+use Rattle.part_laws.proofs.Turns.{same_boot}
 
 both_true : (a b : Bool) → (a && b) ≡ true → (a ≡ true) × (b ≡ true)
 both_true true b h = (refl, h)

@@ -1,11 +1,10 @@
 -- What holds of a shard that runs holds after its step.
 use Rattle.std.proofs.Common.{◌≡◌, ◌⊎◌, inl, inr, ◌≤◌, ◌<◌, ⊎_elim, ◌<ℤ◌, ◌≤ℤ◌, ◌++◌, ℕ, ℤ, Bool}
-use Rattle.std.proofs.Common.{List, [], ◌∷◌, filter_map, All, Contains, Option, Some}
-use Rattle.std.proofs.Common.{None, IfSome, Result, Ok, Err, refl, ap, subst, ◌∙◌, sym, arith}
-use Rattle.std.proofs.Common.{IsSomeAnd}
+use Rattle.std.proofs.Common.{List, [], ◌∷◌, filter_map, All, Contains, Option, Some, None, IfSome}
+use Rattle.std.proofs.Common.{Result, Ok, Err, refl, ap, subst, ◌∙◌, sym, arith, IsSomeAnd}
 use Rattle.std.proofs.lemmas.List.{append_assoc, append-nil}
-use Rattle.std.proofs.lemmas.List.Elements.{All-nil, All-cons, All-head, All-tail}
-use Rattle.std.proofs.lemmas.List.Elements.{All-weaker, All-contains, All-contains_itself}
+use Rattle.std.proofs.lemmas.List.Elements.{All-nil, All-cons, All-head, All-tail, All-weaker}
+use Rattle.std.proofs.lemmas.List.Elements.{All-contains, All-contains_itself}
 use Rattle.txn_types.specs.declared.cause.Cause.{Cause}
 use Rattle.txn_types.specs.declared.cause.Cause.TheVariants as cause
 use Rattle.txn_types.specs.declared.event.Happening.{Happening}
@@ -51,7 +50,8 @@ use Rattle.one_shard_laws.specs.Alone.{IsAlone, EventAlone, RecHeld, HasNumber, 
 use Rattle.one_shard_laws.specs.Alone.{StepAlone}
 use Rattle.one_shard_laws.specs.Lasting.{WasNamed, AllAsked, InOrder, WasCommitted, commits_by}
 use Rattle.one_shard_laws.specs.Lasting.{RecordsAlone, Lasts, Runs}
-use Rattle.one_shard_laws.proofs.Sessions.{below_above, one_some}
+use Rattle.one_shard_laws.proofs.Sessions.{below_above}
+use Rattle.part_laws.proofs.Turns.{one_some}
 use Rattle.one_shard_laws.proofs.Stepping.{step_alone}
 use Rattle.one_shard_laws.proofs.Growing.{WasSent, committed_still, IsMore, Grew, grew}
 use Rattle.one_shard_laws.proofs.Listing.{each_more, each_last, ceiling_more, commit_more}

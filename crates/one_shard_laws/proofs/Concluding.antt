@@ -22,7 +22,7 @@ use Rattle.one_shard_laws.specs.Alone.{RecAlone}
 use Rattle.one_shard_laws.specs.Lasting.{WasNamed, WasCommitted, commits_by, Lasts, OneShard}
 use Rattle.one_shard_laws.specs.Concluding.{ServedRight}
 use Rattle.one_shard_laws.proofs.Listing.{each_more, each_all}
-use Rattle.one_shard_laws.proofs.Ruling.{one}
+use Rattle.world_laws.proofs.Naming.{one}
 
 -- No record decides for several shards.
 

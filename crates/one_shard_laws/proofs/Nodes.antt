@@ -1,7 +1,7 @@
 -- What holds of one shard's node holds after what it takes, and where it starts again.
 use Rattle.std.proofs.Common.{◌≡◌, ◌⊎◌, inl, inr, ⊎_elim, ◌≤◌, ◌<◌, ◌+◌, ◌++◌, ℕ, List, [], ◌∷◌}
-use Rattle.std.proofs.Common.{filter_map, All, Contains, Option, Some, None, refl, ap}
-use Rattle.std.proofs.Common.{subst, ◌∙◌, sym, arith, unwrap_or}
+use Rattle.std.proofs.Common.{filter_map, All, Contains, Option, Some, None, refl, ap, subst, ◌∙◌}
+use Rattle.std.proofs.Common.{sym, arith, unwrap_or}
 use Rattle.std.proofs.lemmas.List.{append-nil}
 use Rattle.std.proofs.lemmas.List.Elements.{All-append, All-weaker, Contains-append_left}
 use Rattle.std.proofs.lemmas.List.Elements.{filter_map-append}
@@ -47,7 +47,7 @@ use Rattle.one_shard_laws.specs.Sessions.{SessionsNamed, IsHeld, IsOnce}
 use Rattle.one_shard_laws.specs.Alone.{IsAlone, EventAlone}
 use Rattle.one_shard_laws.specs.Lasting.{WasNamed, WasAsked, AllAsked, WasCommitted, commits_by}
 use Rattle.one_shard_laws.specs.Lasting.{RecordsAlone, Lasts, Runs, HasLast, HasRun, IsRight}
-use Rattle.one_shard_laws.proofs.Ruling.{nothing, one}
+use Rattle.world_laws.proofs.Naming.{nothing, one}
 use Rattle.one_shard_laws.proofs.Listing.{each_more, ceiling_more, boot_more}
 use Rattle.one_shard_laws.proofs.Recording.{held_named, alone_named, no_commits, none_alone}
 use Rattle.one_shard_laws.proofs.Recording.{ceiling_alone, boot_alone}

@@ -21,7 +21,7 @@ use Rattle.one_shard_laws.specs.Sessions.{SessionsNamed, TablesGo, IsHeld}
 use Rattle.one_shard_laws.specs.Alone.{RecAlone}
 use Rattle.one_shard_laws.specs.Lasting.{commits_by, RecordsAlone}
 use Rattle.one_shard_laws.proofs.Sessions.{least_same, least_then, put_table}
-use Rattle.one_shard_laws.proofs.Ruling.{one}
+use Rattle.world_laws.proofs.Naming.{one}
 use Rattle.one_shard_laws.proofs.Listing.{each_more, each_last, ceiling_more, boot_more}
 use Rattle.one_shard_laws.proofs.Listing.{commit_more}
 

@@ -1,8 +1,7 @@
 -- What each message does at a shard that commits alone.
-use Rattle.std.proofs.Common.{◌≡◌, ℕ, ℤ, [], ◌∷◌, All, Option, Some, None, IfSome}
-use Rattle.std.proofs.Common.{Ok, Err, refl, ap, subst, ◌∙◌, sym}
-use Rattle.std.proofs.lemmas.List.Elements.{All-nil, All-cons}
-use Rattle.txn_types.specs.Letters.{Letter}
+use Rattle.std.proofs.Common.{◌≡◌, ℕ, ℤ, [], ◌∷◌, All, Option, Some, None, IfSome, Ok, Err, refl}
+use Rattle.std.proofs.Common.{ap, subst, ◌∙◌, sym}
+use Rattle.txn_types.specs.Letters.{Letter, Named, named_in}
 use Rattle.txn_types.specs.declared.decision.Told.{Told}
 use Rattle.txn_types.specs.declared.decision.Told.TheVariants as told
 use Rattle.txn_types.specs.declared.message.Commit.{Commit}
@@ -24,21 +23,15 @@ use Rattle.participant.proofs.Cases.{either}
 use Rattle.shard_core.specs.State.{ShardState, with_part}
 use Rattle.shard_core.specs.Ruled.{Ruled, quiet, outcome, coordinates}
 use Rattle.shard_core.specs.Participating as participating
-use Rattle.shard_core.specs.Participating.{answers, outcome_if, changed, ended_by}
+use Rattle.shard_core.specs.Participating.{answers, outcome_if}
 use Rattle.shard_core.specs.Coordinating.{tells, recovers, larger_number, unless_coordinated}
 use Rattle.shard_core.specs.Coordinating.{unless_older, on_recover, on_resend}
 use Rattle.shard_core.specs.Rules.{ruled, from_router, router_of}
-use Rattle.txn_types.specs.Letters.{Named, named_in}
 use Rattle.one_shard_laws.specs.Sessions.{SessionsNamed, GoesOn, IsOnce}
 use Rattle.one_shard_laws.specs.Alone.{IsAlone, RecHeld, AsksFor, SaidAtLeast, ServedAtLeast}
 use Rattle.one_shard_laws.proofs.Sessions.{same_goes, statement_goes, commit_goes}
 use Rattle.one_shard_laws.proofs.Sessions.{client_abort_goes, recover_goes}
-
-pub nothing : {A : Type 0} (P : A → Type 0) → All P []
-nothing P = All-nil P
-
-pub one : {A : Type 0} (P : A → Type 0) (x : A) → P x → All P (x ∷ [])
-one P x h = All-cons P x [] h (All-nil P)
+use Rattle.world_laws.proofs.Naming.{nothing, one}
 
 abbrev pub LetterAlone : Letter → Type 0
 LetterAlone l = IsAlone l.1

@@ -51,6 +51,7 @@ use Rattle.participant.proofs.Tags.{lsid_same, tag_same}
 use Rattle.txn_types.specs.Letters.{Named}
 use Rattle.one_shard_laws.specs.Sessions.{AtLeast, name_of, SessionsNamed, TablesGo, GoesOn, IsOnce}
 use Rattle.one_shard_laws.specs.Alone.{RecHeld, AsksFor, IsMeant, SaidAtLeast}
+use Rattle.part_laws.proofs.Turns.{same_boot, one_some}
 
 pub least_same : (n : ℤ) → n ≤ℤ n
 least_same n = grind arith
@@ -61,17 +62,11 @@ least_then a b c h k = grind (arith, h, k)
 same_time : (n : ℕ) → n ≤ n
 same_time n = omega arith
 
-pub same_boot : (a b : ℕ) → nat_eq a b ≡ true → a ≡ b
-same_boot a b h = grind (arith, h)
-
 pub below_above : (a b c : ℤ) → a <ℤ b → b ≤ℤ c → a ≤ℤ c
 below_above a b c h k = grind (arith, h, k)
 
 not_lower : (a b : ℤ) → int_lt a b ≡ false → b ≤ℤ a
 not_lower a b h = grind (arith, h)
-
-pub one_some : {A : Type 0} (o : Option A) (a b : A) → o ≡ Some a → o ≡ Some b → a ≡ b
-one_some o a b h k = let both : Some a ≡ Some b = sym h ∙ k in cc
 
 pub same_tables : (P : Named → Type 0) (t : Table) → TablesGo P t t
 same_tables P t =

@@ -1,9 +1,8 @@
 -- What a step does of a shard that commits alone.
-use Rattle.std.proofs.Common.{◌≡◌, max, ℕ, List, [], All, Option, Some, None, IfSome}
-use Rattle.std.proofs.Common.{option_map, option_and_then, unwrap_or, is_some, Err, refl, subst}
-use Rattle.std.proofs.Common.{◌∙◌, sym}
+use Rattle.std.proofs.Common.{◌≡◌, max, ℕ, List, [], All, Option, Some, None, IfSome, option_map}
+use Rattle.std.proofs.Common.{option_and_then, unwrap_or, is_some, Err, refl, subst, ◌∙◌, sym}
 use Rattle.std.proofs.lemmas.List.Elements.{All-map, All-weaker}
-use Rattle.txn_types.specs.Letters.{Letter, sent_by}
+use Rattle.txn_types.specs.Letters.{Letter, sent_by, Named, given_out}
 use Rattle.txn_types.specs.declared.cause.Cause.TheVariants as cause
 use Rattle.txn_types.specs.declared.event.Happening.{Happening}
 use Rattle.txn_types.specs.declared.event.Happening.TheVariants as what
@@ -28,14 +27,14 @@ use Rattle.shard_core.specs.Wanting.{wanting, Wanting, told_if, told_memory, may
 use Rattle.shard_core.specs.Core.{Room, Ample, Scarce, Short, CoreStep, core_step, step_if, stepped}
 use Rattle.shard_core.specs.Core.{stays, entered, happened, scarce, running_step, stopped_step}
 use Rattle.shard_core.specs.Core.{answer_stopped, says_stopped, answer_of}
-use Rattle.txn_types.specs.Letters.{Named, given_out}
 use Rattle.shard_core.specs.Effect.{NamesBy}
 use Rattle.one_shard_laws.specs.Sessions.{SessionsNamed, GoesOn, IsOnce}
 use Rattle.one_shard_laws.specs.Alone.{IsAlone, EventAlone, EventAtLeast, ServedAtLeast, RecHeld}
 use Rattle.one_shard_laws.specs.Alone.{EventAsksFor, StepAlone}
 use Rattle.one_shard_laws.proofs.Sessions.{same_goes, both_go, expire_goes, memory_goes}
-use Rattle.one_shard_laws.proofs.Ruling.{nothing, one, LetterAtLeast, RuleAlone}
-use Rattle.one_shard_laws.proofs.Ruling.{quiet_alone, says_alone, resend_alone, ruled_alone}
+use Rattle.world_laws.proofs.Naming.{nothing, one}
+use Rattle.one_shard_laws.proofs.Ruling.{LetterAtLeast, RuleAlone, quiet_alone, says_alone}
+use Rattle.one_shard_laws.proofs.Ruling.{resend_alone, ruled_alone}
 
 abbrev OutAlone : Envelope → Type 0
 OutAlone e = IsAlone e.msg

@@ -25,13 +25,12 @@ use Rattle.part_laws.specs.Looked.{looked}
 use Rattle.part_laws.specs.Sound.{Opened, Opens, with_opened, Served}
 use Rattle.part_laws.specs.Steps.{decided_at, entry_of}
 use Rattle.part_laws.specs.Parts.{opened_of, AtState, AtSession, HeldBy, IsServing, Holds}
-use Rattle.part_laws.proofs.Looking.{looked_is_found}
+use Rattle.part_laws.proofs.Looking.{looked_is_found, eq_self}
 use Rattle.part_laws.proofs.Chains.{each_weaker, each_both}
 use Rattle.part_laws.proofs.Ends.{clock_goes_on}
 use Rattle.part_laws.proofs.Entering.{enters}
 use Rattle.part_laws.proofs.Opening.{by_tag}
 use Rattle.part_laws.proofs.Ended.{aborted_holds, live_same}
-use Rattle.part_laws.proofs.Looking.{eq_self}
 
 -- An entry.
 
@@ -158,15 +157,15 @@ end_one p opens last entries served part lsid why other o is =
     ends_case p opens last entries served part lsid why other s.0 (session p lsid) refl s.1 s.2
 
 -- the others stay live
-other_live : (p : Part) (lsid other : Lsid) (why : Cause) (s : Option Session)
+pub other_live : (p : Part) (lsid other : Lsid) (why : Cause) (s : Option Session)
     → same_lsid other lsid ≡ false → open_of (ends_live p lsid why s) other ≡ open_of p other
 other_live p lsid other why None apart = refl
 other_live p lsid other why (Some s) apart = entry_without other lsid apart p.live
 
-less_apart : (a b : Lsid) → lsid_cmp a b ≡ Less → same_lsid b a ≡ false
+pub less_apart : (a b : Lsid) → lsid_cmp a b ≡ Less → same_lsid b a ≡ false
 less_apart a b less = ap is_eq (lsid_total.antisymm b a ∙ ap ordering_reverse less)
 
-above_apart : (lsid : Lsid) (rest : List (Lsid × Open)) → AllAbove lsid_cmp lsid rest
+pub above_apart : (lsid : Lsid) (rest : List (Lsid × Open)) → AllAbove lsid_cmp lsid rest
     → Each (λ (entry : Lsid × Open). same_lsid entry.0 lsid ≡ false) rest
 above_apart lsid [] above = tt
 above_apart lsid (entry ∷ rest) above =
@@ -207,13 +206,13 @@ expire_rest wall (entry ∷ rest) p opens last entries served part rises live =
     (λ q new part live. expire_rest wall rest q new last entries served part rises.1 live)
 
 -- all in the list are live at first
-looked_case : (entry : Lsid × Open) (rest : List (Lsid × Open)) (other : Lsid × Open)
+pub looked_case : (entry : Lsid × Open) (rest : List (Lsid × Open)) (other : Lsid × Open)
     → same_lsid other.0 entry.0 ≡ false → looked lsid_cmp other.0 rest ≡ Some other.1
     → looked lsid_cmp other.0 (entry ∷ rest) ≡ Some other.1
 looked_case entry rest other apart there =
     ap (λ b. if b then Some entry.1 else looked lsid_cmp other.0 rest) apart ∙ there
 
-all_looked : (rest : List (Lsid × Open)) → Rises lsid_cmp rest
+pub all_looked : (rest : List (Lsid × Open)) → Rises lsid_cmp rest
     → Each (λ (entry : Lsid × Open). looked lsid_cmp entry.0 rest ≡ Some entry.1) rest
 all_looked [] rises = tt
 all_looked (entry ∷ rest) rises = (

@@ -79,7 +79,7 @@ sessions_differ : (a b : Lsid) → same_lsid a b ≡ false → a ≡ b → ⊥
 sessions_differ a b apart same = let wrong : true ≡ false = sym (lsid_self b)
     ∙ ap (λ l. same_lsid l b) (sym same) ∙ apart in cc
 
-one_some : {A : Type 0} (o : Option A) (a b : A) → o ≡ Some a → o ≡ Some b → a ≡ b
+pub one_some : {A : Type 0} (o : Option A) (a b : A) → o ≡ Some a → o ≡ Some b → a ≡ b
 one_some o a b h k = let both : Some a ≡ Some b = sym h ∙ k in cc
 
 why_is : (why other : Cause) (m n : ℕ) → state.Aborted why m ≡ state.Aborted other n → why ≡ other
@@ -93,7 +93,7 @@ or_none false b h = (refl, h)
 newer_is : (a b : ℕ) → nat_eq a b ≡ false → nat_lt a b ≡ false → b < a
 newer_is a b h k = grind (arith, h, k)
 
-same_boot : (a b : ℕ) → nat_eq a b ≡ true → a ≡ b
+pub same_boot : (a b : ℕ) → nat_eq a b ≡ true → a ≡ b
 same_boot a b h = grind (arith, h)
 
 three : (a b c : Bool) → a ≡ false → b ≡ true → (not a && b && c) ≡ false → c ≡ false

@@ -35,8 +35,8 @@ use Rattle.router_state.specs.declared.state.Seeking.{Seeking}
 use Rattle.router_state.specs.declared.state.Session.{Session}
 use Rattle.router_state.specs.declared.state.Transaction.{Transaction}
 use Rattle.router_state.specs.Deeds.{Move, still, answers, done_in, told}
-use Rattle.router_state.specs.State.{RouterState, session_of, asker_in, asker_of, is_from}
-use Rattle.router_state.specs.State.{is_own, commit_sent}
+use Rattle.router_state.specs.State.{RouterState, session_of, asker_in, asker_of, is_from, is_own}
+use Rattle.router_state.specs.State.{commit_sent}
 use Rattle.router_state.specs.Shards.{writers, readers}
 use Rattle.router_rules.specs.Commits as co
 use Rattle.router_rules.specs.Ends as en
@@ -48,10 +48,13 @@ use Rattle.router_plan.specs.Refusals as rf
 use Rattle.router_core.specs.Requests as rq
 use Rattle.participant.proofs.Cases.{either}
 use Rattle.shard_image.proofs.Sessions.{with_entry_again}
-use Rattle.answer_laws.proofs.Beginning.{first_none, so_not, leaves_fit, is_begun}
+use Rattle.world_laws.proofs.Beginning.{first_none, so_not, is_begun}
+use Rattle.answer_laws.proofs.Beginning.{leaves_fit}
 use Rattle.answer_laws.proofs.Fits.{PostFits, AllFit, NoStatement}
-use Rattle.answer_laws.proofs.Going.{some_same}
-use Rattle.answer_laws.proofs.Lists.{one, entries_put, nat_is}
+use Rattle.world_laws.proofs.Going.{some_same}
+use Rattle.world_laws.proofs.Naming.{one}
+use Rattle.world_laws.proofs.PartTimes.{entries_put}
+use Rattle.answer_laws.proofs.Lists.{nat_is}
 use Rattle.told_laws.proofs.Lists.{not_same}
 use Rattle.told_laws.proofs.Moves.{IsOther}
 use Rattle.reply_laws.proofs.Hands.{IsPlain, KeepsTo}

@@ -2,8 +2,7 @@
 -- session that waits for the connection has the statement that the request asks, or the commit of a
 -- command by itself whose statement was answered.
 use Rattle.std.proofs.Common.{◌≡◌, ◌⊎◌, inl, inr, ◌++◌, ◌||◌, ℕ, ℤ, Bool, true, false, All, List}
-use Rattle.std.proofs.Common.{[], nat_eq, Option, Some, None, Ok, Err, refl, sym, ap, subst}
-use Rattle.std.proofs.Common.{◌∙◌}
+use Rattle.std.proofs.Common.{[], nat_eq, Option, Some, None, Ok, Err, refl, sym, ap, subst, ◌∙◌}
 use Rattle.std.specs.Prelude.{Contains, IsOk}
 use Rattle.std.specs.List.{list_any}
 use Rattle.std.proofs.lemmas.List.Elements.{All-nil, All-weaker, Contains-append_left}
@@ -36,7 +35,8 @@ use Rattle.router_rules.specs.Statements.{reply_of}
 use Rattle.cluster_core.specs.Replying.{Hand, is_of}
 use Rattle.cluster_core.specs.Telling.{HasAnswered, IsOf, IsTold, IsToldAlone, IsToldTo, Tells}
 use Rattle.cluster_core.specs.Telling.{WasDone}
-use Rattle.answer_laws.proofs.Lists.{both_true, one}
+use Rattle.answer_laws.proofs.Lists.{both_true}
+use Rattle.world_laws.proofs.Naming.{one}
 use Rattle.told_laws.proofs.Opening.{nat_sym}
 use Rattle.reply_laws.proofs.Lists.{Once, waits_in, and_both, not_both, or_left, or_right}
 

@@ -1,6 +1,6 @@
 -- Sessions in a list: none stands twice; and which connections wait in them.
-use Rattle.std.proofs.Common.{◌≡◌, inl, inr, ◌||◌, ◌&&◌, Bool, true, false, ℕ, All, List, [], ◌∷◌, find, cond}
-use Rattle.std.proofs.Common.{Some, None, refl, sym, ap, ap₂, subst, ◌∙◌, arith}
+use Rattle.std.proofs.Common.{◌≡◌, inl, inr, ◌||◌, ◌&&◌, Bool, true, false, ℕ, All, List, [], ◌∷◌}
+use Rattle.std.proofs.Common.{find, cond, Some, None, refl, sym, ap, ap₂, subst, ◌∙◌, arith}
 use Rattle.std.specs.Prelude.{Contains}
 use Rattle.std.specs.List.{list_any}
 use Rattle.std.proofs.lemmas.List.Elements.{All-nil, All-cons, All-head, All-tail, All-contains}
@@ -12,8 +12,9 @@ use Rattle.router_state.specs.declared.state.Session.{Session}
 use Rattle.router_state.specs.Deeds.{each_session}
 use Rattle.router_state.specs.State.{asker_of, is_from}
 use Rattle.shard_image.proofs.Sessions.{own_lsid, lsid_is}
-use Rattle.answer_laws.proofs.Going.{first_is, rest_is, some_same}
-use Rattle.answer_laws.proofs.Lists.{entries_put, has_first, has_more}
+use Rattle.world_laws.proofs.Going.{first_is, rest_is, some_same}
+use Rattle.world_laws.proofs.PartTimes.{entries_put}
+use Rattle.answer_laws.proofs.Lists.{has_first, has_more}
 use Rattle.told_laws.proofs.Lists.{has_cases}
 
 -- Tests.

@@ -1,8 +1,7 @@
 -- What an event does at a router for the requests in hand.
 use Rattle.std.proofs.Common.{◌≡◌, inl, inr, ◌++◌, ◌||◌, ◌+◌, ℕ, ℤ, Bool, true, false, All, List}
-use Rattle.std.proofs.Common.{[]}
-use Rattle.std.proofs.Common.{◌∷◌, map, nat_eq, Option, Some, None, Result, Ok, Err, refl, sym, ap}
-use Rattle.std.proofs.Common.{subst, ◌∙◌, arith, if◌then◌else◌, not, ◌&&◌}
+use Rattle.std.proofs.Common.{[], ◌∷◌, map, nat_eq, Option, Some, None, Result, Ok, Err, refl, sym}
+use Rattle.std.proofs.Common.{ap, subst, ◌∙◌, arith, if◌then◌else◌, not, ◌&&◌}
 use Rattle.std.specs.Prelude.{fold}
 use Rattle.std.proofs.lemmas.List.{append-nil}
 use Rattle.std.proofs.lemmas.List.Elements.{All-nil, All-cons, All-append, All-head, All-tail}
@@ -49,7 +48,9 @@ use Rattle.cluster_core.specs.Answering.{Unanswered, with_answer, answered_among
 use Rattle.cluster_core.specs.Answering.{taken_msg, unanswered_behind}
 use Rattle.cluster_core.specs.Replying.{Hand, hand_by, hands_of, held_in, is_of, without_conn}
 use Rattle.cluster_core.specs.Routers.{Asked, asked_by}
-use Rattle.answer_laws.proofs.Lists.{both_true, nat_is, one, entries_put}
+use Rattle.answer_laws.proofs.Lists.{both_true, nat_is}
+use Rattle.world_laws.proofs.Naming.{one}
+use Rattle.world_laws.proofs.PartTimes.{entries_put}
 use Rattle.answer_laws.proofs.Sending.{parts_from, part_for, parts_are, skipped, told_by}
 use Rattle.told_laws.proofs.Lists.{contained, filter_has, same_nat}
 use Rattle.told_laws.proofs.Standing.{RouterStands, ListsStand}

@@ -33,7 +33,7 @@ use Rattle.client_cmd.specs.declared.request.Request.TheVariants as request
 use Rattle.participant.proofs.Cases.{either}
 use Rattle.router_plan.specs.Messages as messages
 use Rattle.router_state.specs.State.{is_own}
-use Rattle.answer_laws.proofs.Going.{some_same}
+use Rattle.world_laws.proofs.Going.{some_same}
 use Rattle.told_laws.proofs.Requests.{cmd_bind, cmd_is, asked_case}
 use Rattle.reply_laws.proofs.Asking.{NamesClient}
 use Rattle.reply_laws.proofs.Lists.{or_left, or_right}

@@ -1,7 +1,7 @@
 -- What stands of the requests in hand is kept by each event, and each reply is told right.
-use Rattle.std.proofs.Common.{◌≡◌, inl, inr, ◌++◌, ℕ, Bool, true, false, not, All, List}
-use Rattle.std.proofs.Common.{[], ◌∷◌, filter, filter_map, find, nat_eq, Option, Some, None}
-use Rattle.std.proofs.Common.{option_map, refl, sym, ap, subst, ◌∙◌, arith}
+use Rattle.std.proofs.Common.{◌≡◌, inl, inr, ◌++◌, ℕ, Bool, true, false, not, All, List, [], ◌∷◌}
+use Rattle.std.proofs.Common.{filter, filter_map, find, nat_eq, Option, Some, None, option_map}
+use Rattle.std.proofs.Common.{refl, sym, ap, subst, ◌∙◌, arith}
 use Rattle.std.specs.Prelude.{Contains, slice_get}
 use Rattle.std.proofs.lemmas.List.{append_assoc}
 use Rattle.std.proofs.lemmas.List.Elements.{All-nil, All-cons, All-append, All-weaker, All-filter}
@@ -37,13 +37,14 @@ use Rattle.cluster_core.specs.Routers.{Asked, request_at}
 use Rattle.cluster_core.specs.Telling.{IsToldTo, ToldRight}
 use Rattle.cluster_core.specs.Trace.{Happens, IsTrace, IsFresh, RouterSteps, again}
 use Rattle.answer_laws.specs.Opened.{opened_by}
-use Rattle.answer_laws.proofs.Going.{some_same}
-use Rattle.answer_laws.proofs.Lists.{both_true, nat_is, one}
+use Rattle.world_laws.proofs.Going.{some_same}
+use Rattle.answer_laws.proofs.Lists.{both_true, nat_is}
+use Rattle.world_laws.proofs.Naming.{one}
 use Rattle.told_laws.proofs.Lists.{contained, filter_has, set_cases}
 use Rattle.told_laws.proofs.Running.{Booked, step_booked, fresh_booked}
 use Rattle.told_laws.proofs.Standing.{BookStands, ListsStand, RouterStands}
-use Rattle.reply_laws.proofs.Hands.{IsStatement, IfStatement, RouterHands, HandMoves}
-use Rattle.reply_laws.proofs.Hands.{ReplyRight, replied_to, hand_on, right_on}
+use Rattle.reply_laws.proofs.Hands.{IsStatement, IfStatement, RouterHands, HandMoves, ReplyRight}
+use Rattle.reply_laws.proofs.Hands.{replied_to, hand_on, right_on}
 use Rattle.reply_laws.proofs.Lists.{found_passes, or_first}
 use Rattle.reply_laws.proofs.Moving.{HeldMoves, happened_held, here_is, hand_router}
 

@@ -42,10 +42,10 @@ use Rattle.cluster_core.specs.Answering.{Unanswered, with_answer, is_complete, a
 use Rattle.cluster_core.specs.Answering.{answered_of, answered_among}
 use Rattle.cluster_core.specs.Replying.{Hand}
 use Rattle.cluster_core.specs.Telling.{HasAnswered, IsOf, IsToldTo}
-use Rattle.answer_laws.proofs.Going.{some_same}
+use Rattle.world_laws.proofs.Going.{some_same}
 use Rattle.answer_laws.proofs.Lists.{both_true}
-use Rattle.told_laws.proofs.Answering.{takes, with_opened, answers_now, there_now}
-use Rattle.told_laws.proofs.Answering.{count_now, complete_is}
+use Rattle.told_laws.proofs.Answering.{takes, with_opened, answers_now, there_now, count_now}
+use Rattle.told_laws.proofs.Answering.{complete_is}
 use Rattle.told_laws.proofs.Lists.{has_map, has_filter, same_nat}
 use Rattle.told_laws.proofs.Standing.{Asked, IsAsked, TxnStands, DoingStands, ListsStand}
 use Rattle.told_laws.proofs.Taking.{none_wins, all_replies, told_merged}

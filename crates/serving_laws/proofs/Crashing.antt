@@ -1,5 +1,5 @@
 -- What holds of a shard's part where the machine stopped in a step, or after it.
-use Rattle.std.proofs.Common.{◌≡◌, ◌⊎◌, inl, inr, ◌≤◌, ◌++◌, ℕ, List, [], ◌∷◌, Some, None, refl, ap}
+use Rattle.std.proofs.Common.{◌≡◌, ◌⊎◌, inl, inr, ◌≤◌, ◌++◌, ℕ, List, [], ◌∷◌, Some, None, ap}
 use Rattle.std.proofs.Common.{subst, ◌∙◌, sym, arith}
 use Rattle.txn_types.specs.declared.event.NodeAnswer.{NodeAnswer}
 use Rattle.txn_types.specs.declared.event.NodeEvent.{NodeEvent}
@@ -11,13 +11,9 @@ use Rattle.shard_core.specs.NodeStep.{NodeState, Appended, Failed, ShardTakes, s
 use Rattle.durable_laws.specs.Backed.{IsBacked, IsDurableNode, IsLeft, at_ceiling, kept_state}
 use Rattle.durable_laws.specs.Backed.{lost_state}
 use Rattle.durable_laws.proofs.Stepping.{step_is_backed, fault_is_backed}
-use Rattle.durable_laws.proofs.Nodes.{node_takes, written_front}
+use Rattle.durable_laws.proofs.Nodes.{node_takes, written_front, append_none}
 use Rattle.serving_laws.specs.Crash.{Serving, ServesOn, AtLast, ServesAgain}
 use Rattle.serving_laws.proofs.Starting.{start_serves}
-
-append_none : (xs : List Rec) → xs ++ [] ≡ xs
-append_none [] = refl
-append_none (x ∷ xs) = ap (λ (l : List Rec). x ∷ l) (append_none xs)
 
 left_written : (n : NodeState) (recs : List Rec) → IsDurableNode n → IsLeft n recs → AreWritten recs
 left_written n recs h (inl is) =

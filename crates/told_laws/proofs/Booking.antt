@@ -258,7 +258,7 @@ gone_book routers n conn r s begun us told there k q away h =
 
 -- A router that starts again.
 
-drawn_again : (r : RouterState) (n : ℕ) (tag : Tag) → WasDrawn r tag → WasDrawn (again n r) tag
+pub drawn_again : (r : RouterState) (n : ℕ) (tag : Tag) → WasDrawn r tag → WasDrawn (again n r) tag
 drawn_again r n tag (inl h) = inl (omega (arith, h))
 drawn_again r n tag (inr h) = let same : tag.boot ≡ r.boot = h.0 in inl (omega (arith, same))
 

@@ -13,7 +13,7 @@ use Rattle.answer_laws.proofs.Lists.{has_first, has_more, nat_is}
 
 -- What is in a list.
 
-none_there : {A : Type 0} {X : Type 0} (x : A) → Contains [] x → X
+pub none_there : {A : Type 0} {X : Type 0} (x : A) → Contains [] x → X
 none_there x h = absurd (omega (arith, h.1))
 
 has_one : {A : Type 0} (x y : A) (k : ℕ) → k < 1 → get_or (x ∷ []) k y ≡ y → y ≡ x

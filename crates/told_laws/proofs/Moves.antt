@@ -42,8 +42,9 @@ use Rattle.router_core.specs.Requests as rq
 use Rattle.shard_image.proofs.Sessions.{entry_there, entry_elsewhere, lsid_is}
 use Rattle.world_laws.specs.Begins.{Kept}
 use Rattle.answer_laws.proofs.Fits.{PostFits, AllFit, NoStatement}
-use Rattle.answer_laws.proofs.Beginning.{IsBegun, is_begun, first_none, so_not, leaves_fit}
-use Rattle.answer_laws.proofs.Going.{first_is, rest_is, some_same}
+use Rattle.world_laws.proofs.Beginning.{IsBegun, is_begun, first_none, so_not}
+use Rattle.answer_laws.proofs.Beginning.{leaves_fit}
+use Rattle.world_laws.proofs.Going.{first_is, rest_is, some_same}
 use Rattle.told_laws.proofs.Quiet.{IsSettled, QuietDoing, doing_self, doing_then}
 use Rattle.told_laws.proofs.Quiet.{commit_asked_quiet, client_aborts_quiet, session_quiet}
 use Rattle.told_laws.proofs.Quiet.{seeks_quiet}

@@ -13,7 +13,7 @@ use Rattle.std.proofs.lemmas.List.Elements.{All-nil, All-cons, All-head, All-tai
 use Rattle.std.proofs.lemmas.List.Elements.{All-map}
 use Rattle.txn_types.specs.BySession.{BySession, entry_of}
 use Rattle.txn_types.specs.Order.{same_lsid}
-use Rattle.txn_types.specs.Letters.{Letter, sent_by}
+use Rattle.txn_types.specs.Letters.{Letter, sent_by, Named, named_in, given_out}
 use Rattle.txn_types.specs.declared.decision.Token.{Token}
 use Rattle.txn_types.specs.declared.decision.Token.TheVariants as token
 use Rattle.txn_types.specs.declared.event.Happening.{Happening}
@@ -62,7 +62,6 @@ use Rattle.router_core.specs.Requests as rq
 use Rattle.router_core.specs.Step as sp
 use Rattle.shard_image.proofs.Sessions.{entry_there, lsid_is}
 use Rattle.participant.proofs.Cases.{either}
-use Rattle.txn_types.specs.Letters.{Named, named_in, given_out}
 use Rattle.world_laws.specs.Begins.{begins_unless, begins_by, begins_asked, begins_at, begins}
 use Rattle.world_laws.specs.Begins.{PostNames, AllNames, DoingNames, EntryNames, RouterNames}
 use Rattle.world_laws.specs.Begins.{GoesOn, DeedNames, AllGo, MoveNames, Kept, Drew, Leaves}
@@ -77,12 +76,12 @@ use Rattle.world_laws.proofs.Going.{in_each_names}
 
 -- What refusals leave.
 
-first_none : (o : Option Reply) (os : List (Option Reply)) → first_some (o ∷ os) ≡ None
+pub first_none : (o : Option Reply) (os : List (Option Reply)) → first_some (o ∷ os) ≡ None
     → (o ≡ None) × (first_some os ≡ None)
 first_none None os h = (refl, h)
 first_none (Some r) os h = grind arith
 
-four_none : (a b c d : Option Reply) (os : List (Option Reply))
+pub four_none : (a b c d : Option Reply) (os : List (Option Reply))
     → first_some (a ∷ b ∷ c ∷ d ∷ os) ≡ None → (a ≡ None) × (c ≡ None) × (d ≡ None)
 four_none a b c d os h =
     let x = first_none a (b ∷ c ∷ d ∷ os) h in
@@ -90,11 +89,11 @@ four_none a b c d os h =
     let z = first_none c (d ∷ os) y.1 in
     (x.0, z.0, (first_none d os z.1).0)
 
-so_not : (b : Bool) (why : Refusal) → where_so b why ≡ None → b ≡ false
+pub so_not : (b : Bool) (why : Refusal) → where_so b why ≡ None → b ≡ false
 so_not true why h = grind arith
 so_not false why h = refl
 
-not_lower : (n : ℤ) (old : Session) → too_old (Some old) n ≡ None → int_lt n old.number ≡ false
+pub not_lower : (n : ℤ) (old : Session) → too_old (Some old) n ≡ None → int_lt n old.number ≡ false
 not_lower n old h = by (int_lt n old.number) refl
   where
     by : (b : Bool) → int_lt n old.number ≡ b → b ≡ false
@@ -102,18 +101,18 @@ not_lower n old h = by (int_lt n old.number) refl
         then Some (TooOld n old.number) else None) (sym e) ∙ h in grind (arith, bad)
     by false e = refl
 
-below_unless : (a n : ℤ) → int_lt n a ≡ false → int_eq a n ≡ false → a <ℤ n
+pub below_unless : (a n : ℤ) → int_lt n a ≡ false → int_eq a n ≡ false → a <ℤ n
 below_unless a n h k = by_lt_z a n (λ lt. lt) (λ le. let same : a ≡ n =
     omega (arith, ints, h, le) in let yes : int_eq a n ≡ true = (Decides-int_eq a n).1 same in
     let bad : true ≡ false = sym yes ∙ k in grind (arith, bad))
 
-same_unless : (a n : ℤ) → int_lt n a ≡ false → int_lt a n ≡ false → a ≡ n
+pub same_unless : (a n : ℤ) → int_lt n a ≡ false → int_lt a n ≡ false → a ≡ n
 same_unless a n h k = omega (arith, ints, h, k)
 
-lower_if : (a n : ℤ) → int_lt a n ≡ true → a <ℤ n
+pub lower_if : (a n : ℤ) → int_lt a n ≡ true → a <ℤ n
 lower_if a n h = omega (arith, ints, h)
 
-start_above : (old : Session) (n : ℤ) (start : Bool) → int_lt n old.number ≡ false
+pub start_above : (old : Session) (n : ℤ) (start : Bool) → int_lt n old.number ≡ false
     → (start && int_eq old.number n) ≡ false → not start ≡ false → old.number <ℤ n
 start_above old n true lower same none = below_unless old.number n lower same
 start_above old n false lower same none = grind arith
@@ -141,7 +140,7 @@ fresh_if s conn session txn op h none old is =
     start_above old txn.number txn.start lower same starts
 
 -- a commit that isn't refused is of no lower number
-commit_above : (s : RouterState) (conn : ℕ) (session : Option Session) (txn : Txn)
+pub commit_above : (s : RouterState) (conn : ℕ) (session : Option Session) (txn : Txn)
     (t : Option Token) → commit_refusal s conn session txn t ≡ None → (old : Session)
     → session ≡ Some old → int_lt txn.number old.number ≡ false
 unfolding commit_refusal
@@ -175,16 +174,16 @@ entry_named P lsid (entry ∷ entries) s h e =
     entry_case P lsid entry entries s (All-head (EntryNames P) entry entries h) (entry_named P lsid
     entries s (All-tail (EntryNames P) entry entries h)) (same_lsid lsid entry.0) refl e
 
-begun_if : (own number : ℤ) (u t : Transaction) (test : Bool) → int_eq own number ≡ test
+pub begun_if : (own number : ℤ) (u t : Transaction) (test : Bool) → int_eq own number ≡ test
     → (if test then Some u else None) ≡ Some t → (own ≡ number) × (Begun u ≡ Begun t)
 begun_if own number u t true is e = ((Decides-int_eq own number).0 is, ap Begun (some_same u t e))
 begun_if own number u t false is e = grind arith
 
-not_sought : (test : Bool) (t : Transaction) → (if test then None else None) ≡ Some t → ⊥
+pub not_sought : (test : Bool) (t : Transaction) → (if test then None else None) ≡ Some t → ⊥
 not_sought true t e = grind arith
 not_sought false t e = grind arith
 
-begun_doing : (own number : ℤ) (doing : Doing) (t : Transaction)
+pub begun_doing : (own number : ℤ) (doing : Doing) (t : Transaction)
     → begun_in (Some (record { number = own; doing = doing })) number ≡ Some t
     → (own ≡ number) × (doing ≡ Begun t)
 begun_doing own number (Begun u) t e = begun_if own number u t (int_eq own number) refl e
@@ -197,13 +196,13 @@ pub record IsBegun (session : Option Session) (number : ℤ) (t : Transaction) :
   pub number_is : there.number ≡ number
   pub doing : there.doing ≡ Begun t
 
-is_begun : (session : Option Session) (number : ℤ) (t : Transaction)
+pub is_begun : (session : Option Session) (number : ℤ) (t : Transaction)
     → begun_in session number ≡ Some t → IsBegun session number t
 is_begun None number t e = grind arith
 is_begun (Some s) number t e = let b = begun_doing s.number number s.doing t e in
     record { there = s; is = refl; number_is = b.0; doing = b.1 }
 
-is_session : (there : Session) (number : ℤ) (t : Transaction) → there.number ≡ number
+pub is_session : (there : Session) (number : ℤ) (t : Transaction) → there.number ≡ number
     → there.doing ≡ Begun t → there ≡ record { number = number; doing = Begun t }
 is_session there number t a b = ap₂ (λ (n : ℤ) (d : Doing). record { number = n; doing = d }) a b
 

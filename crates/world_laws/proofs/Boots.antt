@@ -116,7 +116,7 @@ node_weaker B C f n h = record {
 
 -- The boot of records.
 
-image_on : (i : Image) (a b : List Rec)
+pub image_on : (i : Image) (a b : List Rec)
     → image.with_records i (a ++ b) ≡ image.with_records (image.with_records i a) b
 image_on i [] b = refl
 image_on i (r ∷ a) b = image_on (image.with_record i r) a b
@@ -164,7 +164,7 @@ pub record Stepped (B : ℕ → ℕ → Type 0) (old new : NodeState) (given : L
   pub told : NodeTold B new
   pub out : All (EnvBoots B) given
 
-core_by : (P : ShardState → Type 0) (old : NodeState) (o : CoreStep) (a : NodeAnswer)
+pub core_by : (P : ShardState → Type 0) (old : NodeState) (o : CoreStep) (a : NodeAnswer)
     (new : NodeState) → P o.core → ((stopped : Option ℕ) → P (record o.core { stopped = stopped }))
     → (Appended old o a new ⊎ Failed old o a new) → P new.core
 core_by P old o a new h k (inl d) = subst P (sym d.core) h

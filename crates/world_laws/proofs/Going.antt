@@ -63,12 +63,12 @@ pub rest_is : {A : Type 0} (lsid : Lsid) (entry : Lsid × A) (entries : BySessio
 rest_is lsid entry entries h = ap (λ b. option_map (λ (e : Lsid × _). e.1)
     (cond b (Some entry) (find (λ (e : Lsid × _). same_lsid lsid e.0) entries))) h
 
-put_first : {A : Type 0} (lsid : Lsid) (a : A) (entry : Lsid × A) (entries : BySession A)
+pub put_first : {A : Type 0} (lsid : Lsid) (a : A) (entry : Lsid × A) (entries : BySession A)
     → same_lsid lsid entry.0 ≡ true → with_entry lsid a (entry ∷ entries) ≡ (lsid, a) ∷ entries
 put_first lsid a entry entries h =
     ap (λ b. cond b ((lsid, a) ∷ entries) (entry ∷ with_entry lsid a entries)) h
 
-put_rest : {A : Type 0} (lsid : Lsid) (a : A) (entry : Lsid × A) (entries : BySession A)
+pub put_rest : {A : Type 0} (lsid : Lsid) (a : A) (entry : Lsid × A) (entries : BySession A)
     → same_lsid lsid entry.0 ≡ false
     → with_entry lsid a (entry ∷ entries) ≡ entry ∷ with_entry lsid a entries
 put_rest lsid a entry entries h =

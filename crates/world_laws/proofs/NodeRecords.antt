@@ -68,7 +68,7 @@ use Rattle.world_laws.proofs.StepRecords.{rests_more}
 abbrev records : NodeState → List Rec
 records n = n.records
 
-some_is : {A : Type 0} (x y : A) → Some x ≡ Some y → x ≡ y
+pub some_is : {A : Type 0} (x y : A) → Some x ≡ Some y → x ≡ y
 some_is x y e = grind arith
 
 record Mapped (shards : List NodeState) (recs : List Rec) : Type 0 where
