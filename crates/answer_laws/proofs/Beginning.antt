@@ -68,7 +68,7 @@ use Rattle.answer_laws.proofs.Deeds.{seeks_in_names, anew_given}
 use Rattle.world_laws.proofs.Going.{first_is, rest_is, some_same}
 use Rattle.answer_laws.proofs.Going.{all_self, all_then, done_names, in_each_names}
 use Rattle.world_laws.proofs.Beginning.{four_none, so_not, not_lower, same_unless, lower_if}
-use Rattle.world_laws.proofs.Beginning.{start_above, commit_above, there, is, number_is, doing}
+use Rattle.world_laws.proofs.Beginning.{start_above, commit_above}
 use Rattle.world_laws.proofs.Beginning.{is_begun, is_session}
 
 -- What refusals leave.
