@@ -1,0 +1,4 @@
+pub mod Unharmed
+pub mod Course
+pub mod Ends
+pub mod Clients
