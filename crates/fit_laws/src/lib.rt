@@ -1,0 +1,4 @@
+//! Laws of runs: what is sent fits the fields of the records that are made of it.
+#![tactic(auto)]
+
+pub mod laws;

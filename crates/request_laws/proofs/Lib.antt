@@ -1,0 +1,4 @@
+pub mod Docs
+pub mod Meanings
+pub mod Namespaces
+pub mod Requests
