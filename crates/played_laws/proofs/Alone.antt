@@ -1,9 +1,8 @@
--- The plain configuration has one shard, which starts alone on a new disk.
-use Rattle.std.proofs.Common.{◌≡◌, ℕ, List, [], ◌∷◌, length, Some, refl, sym, ap}
-use Rattle.std.proofs.Common.{◌∙◌, subst, arith}
+-- A configuration of one shard has one, which starts alone on a new disk.
+use Rattle.std.proofs.Common.{◌≡◌, List, [], ◌∷◌, length, Some, refl, ap}
+use Rattle.std.proofs.Common.{◌∙◌, arith}
 use Rattle.std.specs.Prelude.{slice_get}
-use Rattle.chunk_map.specs.Map.{IsMap}
-use Rattle.cluster_conf.specs.Conf.{Settings, plain}
+use Rattle.cluster_conf.specs.Conf.{Settings}
 use Rattle.cluster_core.specs.Nodes.{Nodes}
 use Rattle.shard_core.specs.NodeStep.{NodeState}
 use Rattle.one_shard_laws.specs.Concluding.{StartsAlone}
@@ -19,14 +18,10 @@ one_of [] e = absurd (omega (arith, e))
 one_of (x ∷ []) e = record { it = x; is = refl }
 one_of (x ∷ y ∷ xs) e = absurd (omega (arith, e))
 
-pub plain_is_map : (conf : Settings) → conf ≡ plain → IsMap conf.map
-plain_is_map conf is = subst (λ (c : Settings). IsMap c.map) (sym is) refl
-
-pub starts_alone : (told : Type 0) (conf : Settings) (nodes : Nodes) → told → conf ≡ plain
+pub starts_alone : (told : Type 0) (conf : Settings) (nodes : Nodes) → told → conf.shards ≡ 1
     → AreStarted told conf nodes → StartsAlone conf.map nodes
 starts_alone told conf nodes t is h =
-    let count : length nodes.shards ≡ 1 = h.shards ∙ ap (λ (c : Settings). c.shards) is in
-    let one : One nodes.shards = one_of nodes.shards count in
+    let one : One nodes.shards = one_of nodes.shards (h.shards ∙ is) in
     let there : slice_get nodes.shards 0 ≡ Some one.it =
     ap (λ (xs : List NodeState). slice_get xs 0) one.is in
     let starts = h.new t 0 one.it there in

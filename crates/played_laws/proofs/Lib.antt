@@ -1,2 +1,7 @@
 pub mod Alone
-pub mod Played
+pub mod Maps
+pub mod Chunks
+pub mod Parts
+pub mod Runs
+pub mod Calm
+pub mod Throughout

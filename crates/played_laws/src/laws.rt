@@ -1,21 +1,18 @@
 //! A law is the contract of a function with an empty body.
-ghost use Rattle.std.specs.Prelude.{◌≡◌, ℕ, List, Option, IsTrue};
-ghost use Rattle.cluster_conf.specs.Conf.{plain};
-ghost use Rattle.play_steps.specs.declared.want.Want.{Want};
-ghost use Rattle.cluster_play.specs.Ended.{Played};
-ghost use Rattle.cluster_play.specs.Plays.{IsCalm, ran_of};
-ghost use Rattle.cluster_play.specs.Schedule.{player_of};
-ghost use Rattle.right_laws.specs.Alone.{RightAlone};
+ghost use Rattle.std.specs.Prelude.{ℕ, List, Option, IsTrue};
+ghost use Rattle.cluster_play.specs.declared.status.Status.{Status};
+ghost use Rattle.cluster_play.specs.Ended.{Ended};
+ghost use Rattle.played_laws.specs.Throughout.{RightBy};
 
 use outside_core::Disk;
 
-/// What was played of a schedule without a configuration and without a restart, over disks that
-/// tell what they hold: what clients were answered is right against the list of commits,
-/// wherever the playing ended: at the schedule's end, its first bad line, or too much.
-pub fn what_is_played_on_one_shard_is_right<D: Disk>()
-    ensures { (lines : List (List ℕ)) (last : Want) (held held' : Option (List ℕ))
-        (w : Played ((d : D) → IsTrue (D.tells d)) lines last held held')
-        → ((d : D) → IsTrue (D.tells d)) → w.schedule.conf ≡ plain
-        → IsCalm (player_of w.schedule)
-        → RightAlone w.start (ran_of w.played.items) w.played.behind }
+/// What was played of a schedule over one shard, whose disks tell what they hold: after every
+/// event, what clients were answered by then is right against the list of commits as it was then.
+/// So it is wherever the playing ended: at the schedule's end, its first bad line, too much, a node
+/// that doesn't start again, a fault of the output or the want of memory. Routers may start again;
+/// a shard where each of its records fits its bytes.
+pub fn what_is_played_on_one_shard_is_right_throughout<D: Disk>()
+    ensures { (lines : List (List ℕ)) (held held' : Option (List ℕ)) (ending : Status)
+        (w : Ended ((d : D) → IsTrue (D.tells d)) lines held held' ending)
+        → RightBy ((d : D) → IsTrue (D.tells d)) lines held held' ending w }
 {}
