@@ -1,0 +1,11 @@
+pub mod Leaving
+pub mod Turns
+pub mod Ending
+pub mod Expiring
+pub mod Steps
+pub mod Standing
+pub mod Hearing
+pub mod Asking
+pub mod Holding
+pub mod Parsing
+pub mod Running

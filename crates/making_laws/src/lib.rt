@@ -1,0 +1,4 @@
+//! Each cause that a reply tells has its making.
+#![tactic(auto)]
+
+pub mod laws;
