@@ -1,0 +1,15 @@
+pub mod Ruling
+pub mod Expiring
+pub mod Stepping
+pub mod Places
+pub mod Standing
+pub mod Conflicts
+pub mod Rules
+pub mod Ruled
+pub mod Boots
+pub mod Unavailable
+pub mod Earlier
+pub mod Stamps
+pub mod Times
+pub mod Conflicting
+pub mod All

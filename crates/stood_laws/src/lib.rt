@@ -1,0 +1,4 @@
+//! What stood where a shard made a cause.
+#![tactic(auto)]
+
+pub mod laws;
