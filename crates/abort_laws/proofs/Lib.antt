@@ -1,0 +1,11 @@
+pub mod Parts
+pub mod Rules
+pub mod Places
+pub mod Asked
+pub mod Deeds
+pub mod Requests
+pub mod Stated
+pub mod Routers
+pub mod Because
+pub mod Running
+pub mod Whole
