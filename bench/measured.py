@@ -71,6 +71,21 @@ def least(program, lines, runs, wanted):
     return min(found, key=lambda it: it.processor)
 
 
+def instructions(program, lines, wanted):
+    """How many instructions the run takes, as valgrind counts them: these don't change with what else the machine does."""
+    with tempfile.TemporaryDirectory() as room:
+        schedule, counts = pathlib.Path(room, "schedule"), pathlib.Path(room, "counts")
+        schedule.write_text("".join(lines))
+        words = ["valgrind", "-q", "--tool=cachegrind", "--cache-sim=no", f"--cachegrind-out-file={counts}", program, "play"]
+        with open(schedule) as given:
+            ran = subprocess.run(words, stdin=given, stdout=subprocess.PIPE, stderr=subprocess.DEVNULL, text=True)
+        replies = sum(line.startswith("reply ") for line in ran.stdout.splitlines())
+        if ran.returncode != 0 or replies != wanted:
+            sys.exit(f"the program ended with status {ran.returncode} and {replies} replies, where {wanted} are wanted")
+        found = [line for line in counts.read_text().splitlines() if line.startswith("summary:")]
+        return int(found[0].split()[1])
+
+
 def program_of(words):
     """The program that the command line names, if it is one."""
     if not os.access(words.program, os.X_OK):
