@@ -52,23 +52,20 @@ pub fn deletes(alloc: Global, count: u32) -> Result<Vec<u8>, AllocError> {
     message_of(alloc, command(alloc, "delete")?, Items::from_vec(seqs))
 }
 
-/// `{_id: id, a: TEXT}`, which has that many bytes.
-fn document(alloc: Global, id: i32, size: u32) -> Result<Doc, AllocError> {
+/// `{_id: 1, a: TEXT}`, which has that many bytes.
+fn document(alloc: Global, size: u32) -> Result<Doc, AllocError> {
     let mut fields = Vec::new(alloc);
-    fields.push((Name::from_str(alloc, "_id")?, Value::Int(id)))?;
+    fields.push((Name::from_str(alloc, "_id")?, Value::Int(1)))?;
     let length = size.saturating_sub(BESIDE_TEXT) as usize;
     let text = Text::new("x".repeat(alloc, length)?);
     fields.push((Name::from_str(alloc, "a")?, Value::Text(text)))?;
     Ok(Items::from_vec(fields))
 }
 
-/// `{insert: "c", $db: "d"}` with a section `documents` of documents `{_id: 1, a: TEXT}` and so on,
-/// each of that many bytes.
-pub fn inserts(alloc: Global, count: u16, size: u32) -> Result<Vec<u8>, AllocError> {
-    let mut docs = Vec::new(alloc);
-    for place in 0..count {
-        docs.push(document(alloc, i32::from(place) + 1, size)?)?;
-    }
+/// `{insert: "c", $db: "d"}` with a section `documents` of one document `{_id: 1, a: TEXT}`, of that
+/// many bytes.
+pub fn inserts(alloc: Global, size: u32) -> Result<Vec<u8>, AllocError> {
+    let docs = vec![in alloc; document(alloc, size)?]?;
     let mut seqs = Vec::new(alloc);
     seqs.push((Name::from_str(alloc, "documents")?, Items::from_vec(docs)))?;
     message_of(alloc, command(alloc, "insert")?, Items::from_vec(seqs))

@@ -1,5 +1,5 @@
 //! Runs the cases that lie in a folder, and prints each that goes another way than it says: what
-//! messages ask, what they are refused with, what a server answers them, and how replies read.
+//! messages ask, what they are refused with, and how replies read.
 #![tactic(auto)]
 
 mod cases;
@@ -11,11 +11,10 @@ use cases::Cases;
 use std::{env, fs, io};
 
 /// The files of cases.
-const FILES: [&str; 6] = [
+const FILES: [&str; 5] = [
     "reading.cases",
     "refused.cases",
     "first.cases",
-    "serving.cases",
     "replies.cases",
     "limits.cases",
 ];

@@ -1,5 +1,2 @@
-pub mod Progress
-pub mod Rights
-pub mod Endings
+pub mod Playing
 pub mod Verdicts
-pub mod Choosing

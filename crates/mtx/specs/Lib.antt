@@ -1,7 +1,4 @@
 pub mod Words
-pub mod Play
-pub mod Playing
-pub mod OneLine
-pub mod Ending
 pub mod Statuses
-pub mod Choice
+pub mod Ending
+pub mod Play

@@ -1,25 +1,22 @@
-ghost use Rattle.std.specs.Prelude.{◌≡◌, ◌⊎◌, ℕ, List};
+ghost use Rattle.std.specs.Prelude.{◌≡◌, ℕ, List, Option, IsTrue};
 ghost use Rattle.outcomes.specs.Causes.{Rose};
-ghost use Rattle.play_script.specs.Lines.{Asked};
-ghost use Rattle.mtx.specs.Play.{IsPlayable, RightThroughout};
-ghost use Rattle.mtx.specs.Ending.{Judges, IsInterrupted};
+ghost use Rattle.course_laws.specs.Clients.{AreOfClients, IsPlayable};
+ghost use Rattle.mtx.specs.Play.{PlayedOver};
+ghost use Rattle.mtx.specs.Ending.{IsLeft};
 ghost use Rattle.mtx.specs.declared.status.Status.{Status};
-ghost use Rattle.mtx.specs.declared.status.Status.TheVariants.{Ok, Memory, ReadFault, WriteFault};
+ghost use Rattle.mtx.specs.declared.status.Status.TheVariants.{ReadFault, WriteFault};
 
-/// Whatever is asked, the answers are those of one list of commits, after each line.
-pub fn answers_are_right()
-    ensures { (asked : List Asked) → RightThroughout asked }
-{}
+use outside_core::Disk;
 
-/// Where each line of a schedule asks something and no count of faults rose, the schedule was
-/// played to its end, or memory ran out. So it is for each status of which the clauses of `offline`
-/// hold.
-pub fn only_want_of_memory_is_left()
-    ensures { (input : List ℕ) (status : Status) (reads reads_now writes writes_now : ℕ)
-        → IsPlayable input
-        → ((s : Status) → Judges input s → (status ≡ s) ⊎ IsInterrupted status)
+/// Where each line is of a client and asks something, and no count of faults rose, the lines were
+/// played to their end, or one of a few things that the schedule can't help stopped the playing. So
+/// it is for each status of which the clauses of `offline` hold.
+pub fn only_want_of_memory_is_left<D: Disk>()
+    ensures { (lines : List (List ℕ)) (held after : Option (List ℕ)) (status : Status)
+        (reads reads_now writes writes_now : ℕ)
+        → PlayedOver ((d : D) → IsTrue (D.tells d)) lines held after status
+        → AreOfClients lines → IsPlayable lines
         → (status ≡ ReadFault → Rose reads reads_now)
         → (status ≡ WriteFault → Rose writes writes_now)
-        → (Rose reads reads_now → ⊥) → (Rose writes writes_now → ⊥)
-        → (status ≡ Ok) ⊎ (status ≡ Memory) }
+        → (Rose reads reads_now → ⊥) → (Rose writes writes_now → ⊥) → IsLeft status }
 {}

@@ -6,7 +6,6 @@ ghost use Rattle.std.specs.Prelude.{◌≡◌, ◌≤◌, vec_len, IfOk, OnOk};
 
 pub mod laws;
 mod offline;
-mod plain;
 mod status;
 mod stdio;
 #[cfg(test)]

@@ -1,36 +1,17 @@
-ghost use Rattle.std.specs.Prelude.{◌≡◌, ◌↔◌, ◌⊎◌, [], ℕ, List, Some, None, IsTrue, map, string_bytes, vec_len};
+ghost use Rattle.std.specs.Prelude.{◌≡◌, ◌↔◌, [], ℕ, Some, None, IsTrue, map, string_bytes, vec_len};
 ghost use Rattle.outcomes.specs.Causes.{Rose};
 ghost use Rattle.outcomes.specs.Told.{WhereKnown};
-ghost use Rattle.play_script.specs.Lines.{lines_of};
 ghost use Rattle.mtx.specs.Words.{word_at_fault};
-ghost use Rattle.mtx.specs.Choice.{has_clients_alone, AskAlone, IsPlayed};
-ghost use Rattle.mtx.specs.Ending.{Judges, IsInterrupted, Wrote, IsUnread};
-ghost use Rattle.mtx.specs.declared.status.Status.{Status as AnyStatus};
+ghost use Rattle.mtx.specs.Play.{IsPlayed};
+ghost use Rattle.mtx.specs.Ending.{IsUnread};
 
-use crate::plain::play_plain;
 use crate::status::Status;
 use cluster_play::play_input;
 use outside_core::{Disk, Sink, Source, SourceErr};
-use play_script::{next_line, read_input};
+use play_script::read_input;
 use std::alloc::Global;
 
-/// Whether each line is of a client.
-fn has_clients_alone(schedule: &[u8]) -> bool
-    ensures { result ≡ has_clients_alone (lines_of schedule.now) }
-{
-    let mut rest = schedule;
-    while !rest.is_empty() {
-        let (line, after) = next_line(rest);
-        if !line.starts_with(b"client ") {
-            return false;
-        }
-        rest = after;
-    }
-    true
-}
-
-/// Reads the whole schedule, and then plays it: over one node where all its lines are of clients,
-/// and else over a cluster.
+/// Reads the whole schedule, and then plays it.
 fn play<S: Source, K: Sink, D: Disk>(
     alloc: Global,
     src: &mut S,
@@ -50,15 +31,11 @@ fn play<S: Source, K: Sink, D: Disk>(
     ensures write_fault { result ≡ Status.WriteFault
         → Rose (K.fault_count out.old) (K.fault_count out.new) }
 {
-    let input = match read_input(alloc, src) {
-        Ok(input) => input,
-        Err(SourceErr::Failed) => return Status::ReadFault,
-        Err(SourceErr::Memory) => return Status::Memory,
-    };
-    if has_clients_alone(&input.bytes) {
-        return play_plain(alloc, &input.bytes, input.end, out);
+    match read_input(alloc, src) {
+        Ok(input) => Status::from(play_input(alloc, input, out, disks)),
+        Err(SourceErr::Failed) => Status::ReadFault,
+        Err(SourceErr::Memory) => Status::Memory,
     }
-    Status::from(play_input(alloc, input, out, disks))
 }
 
 /// Does what the words of the command line say. The only command so far is `play`.
@@ -75,24 +52,10 @@ pub fn offline<S: Source, K: Sink, D: Disk>(
     // The words are refused exactly where they are no command.
     ensures bad_words { (index : ℕ) → (result ≡ Status.BadWords index)
         ↔ (word_at_fault (map string_bytes words.now) ≡ Some index) }
-    // What was read was played, over one node where all its lines are of clients, and else over a
-    // cluster.
+    // What was read was played over a cluster, and what its clients were answered is right.
     ensures played { word_at_fault (map string_bytes words.now) ≡ None
         → WhereKnown (S.left src.old) (λ input. IsPlayed ((d : D) → IsTrue (D.tells d)) input
         (K.held out.old) (K.held out.new) result) }
-    // Of a schedule whose lines are all of clients: the status is the schedule's, or something
-    // outside failed, or there was no memory.
-    ensures judged { word_at_fault (map string_bytes words.now) ≡ None → WhereKnown (S.left src.old)
-        (λ input. AskAlone input → Judges input result ⊎ IsInterrupted result) }
-    // It has one status.
-    ensures found { word_at_fault (map string_bytes words.now) ≡ None
-        → WhereKnown (S.left src.old) (λ input. AskAlone input → (status : AnyStatus)
-        → Judges input status → (result ≡ status) ⊎ IsInterrupted result) }
-    // What was written is the text of the lines that were played, and the answers are those of one
-    // list of commits.
-    ensures text { WhereKnown (S.left src.old)
-        (λ input. AskAlone input → WhereKnown (K.held out.old)
-        (λ before. WhereKnown (K.held out.new) (λ after. Wrote input before after result))) }
     ensures at_end { result ≡ Status.Ok
         → WhereKnown (S.left src.old) (λ input. S.left src.new ≡ Some []) }
     ensures disks { vec_len disks.new ≡ 24 }

@@ -1,3 +1,0 @@
-pub mod Searched
-pub mod Named
-pub mod Laid

@@ -1,9 +1,0 @@
-pub mod Good
-pub mod Once
-pub mod Tags
-pub mod Next
-pub mod Kept
-pub mod Judged
-pub mod Rights
-pub mod Sound
-pub mod Alike

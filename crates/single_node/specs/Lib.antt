@@ -1,5 +1,0 @@
-pub mod Serving
-pub mod Right
-pub mod Messages
-pub mod Standing
-pub mod Committing
