@@ -139,6 +139,18 @@ pub count_of : {A B : Type 0} (f : A → B) (xs : List A) (ys : List B) (n : ℕ
 count_of {A} {B} f xs ys n is all = is ∙ sym (length-map xs f) ∙ ap (λ (l : List B). length l) all
 
 -- over the schedule of a front
+pub front_at : (told : Type 0) (s : Schedule) (start : Nodes) (held held' : Option (List ℕ))
+    (end : Status) (chunks : Map) (p : Player) (shards routers : ℕ) → chunks ≡ s.conf.map
+    → p ≡ first_player shards routers s.taken s.lines → shards ≡ s.conf.shards
+    → routers ≡ s.conf.routers → EndedOver told chunks p start held held' end
+    → EndedOver told s.conf.map (player_of s) start held held' end
+front_at told s start held held' end chunks p shards routers map_is is shards_is routers_is h =
+    let same : p ≡ player_of s = is ∙ ap (λ (n : ℕ). first_player n routers s.taken s.lines)
+    shards_is ∙ ap (λ (n : ℕ). first_player s.conf.shards n s.taken s.lines) routers_is in
+    let at_map : EndedOver told s.conf.map p start held held' end =
+    subst (λ (m : Map). EndedOver told m p start held held' end) map_is h in
+    subst (λ (x : Player). EndedOver told s.conf.map x start held held' end) same at_map
+
 pub front_over : (told : Type 0) (lines : List (List ℕ)) (s : Schedule) (start : Nodes)
     (held held' : Option (List ℕ)) (end : Status) (chunks : Map) (p : Player) (shards routers : ℕ)
     → schedule_of lines ≡ Ok s → AreStarted told s.conf start → chunks ≡ s.conf.map
@@ -146,13 +158,8 @@ pub front_over : (told : Type 0) (lines : List (List ℕ)) (s : Schedule) (start
     → routers ≡ s.conf.routers
     → EndedOver told chunks p start held held' end → Ended told lines held held' end
 front_over told lines s start held held' end chunks p shards routers reads started map_is is
-    shards_is routers_is h =
-    let same : p ≡ player_of s = is ∙ ap (λ (n : ℕ). first_player n routers s.taken s.lines)
-    shards_is ∙ ap (λ (n : ℕ). first_player s.conf.shards n s.taken s.lines) routers_is in
-    let at_map : EndedOver told s.conf.map p start held held' end =
-    subst (λ (m : Map). EndedOver told m p start held held' end) map_is h in
-    ended_over told lines s start held held' end reads started
-    (subst (λ (x : Player). EndedOver told s.conf.map x start held held' end) same at_map)
+    shards_is routers_is h = ended_over told lines s start held held' end reads started
+    (front_at told s start held held' end chunks p shards routers map_is is shards_is routers_is h)
 
 ends_not : (w : Want) → status_at w ≡ Some status.WriteFault → ⊥
 ends_not want.End is = cc

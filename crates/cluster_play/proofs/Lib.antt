@@ -10,3 +10,5 @@ mod Restarts
 mod Unended
 mod Reboots
 mod Running
+mod Refused
+mod Saying

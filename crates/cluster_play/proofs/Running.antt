@@ -4,7 +4,7 @@ use Rattle.chunk_map.specs.Map.{Map}
 use Rattle.txn_model.specs.declared.ran.Ran.{Ran}
 use Rattle.txn_model.specs.declared.ran.Ran.TheVariants.{Step, Swapped}
 use Rattle.cluster_core.specs.Nodes.{Nodes}
-use Rattle.cluster_core.specs.Trace.{Happens, IsTrace}
+use Rattle.cluster_core.specs.Trace.{Happens}
 use Rattle.cluster_world.specs.declared.event.WorldEvent.{WorldEvent}
 use Rattle.play_steps.specs.declared.want.Want.{Want}
 use Rattle.play_steps.specs.declared.want.Want.TheVariants as want
@@ -14,7 +14,6 @@ use Rattle.play_steps.specs.Steps.{given_of}
 use Rattle.play_steps.proofs.Keeping.{AllAre, IsKept, Goes, IsNext, answer_on}
 use Rattle.play_steps.proofs.Calm.{IsNoRenew, stays_calm}
 use Rattle.cluster_play.specs.Plays.{asked, CannotBe, Does, dump_at, next_at, PlaysTo, IsCalm, IsRun}
-use Rattle.cluster_play.specs.Plays.{ran_of}
 
 abbrev pub Stays : (List (List ℕ) → Type 0) → (Want → Type 0) → Type 0
 Stays P W = (dump : List ℕ) (p : Player) → IsKept P W p → IsNext P W (next dump p)

@@ -1,5 +1,5 @@
 -- What was read in part doesn't end well: behind it stands an empty line, which asks nothing.
-use Rattle.std.proofs.Common.{◌≡◌, ℕ, Bool, true, false, cond, List, [], ◌∷◌, ◌++◌, length, Option}
+use Rattle.std.proofs.Common.{◌≡◌, ℕ, Bool, true, false, cond, List, [], ◌∷◌, ◌++◌, Option}
 use Rattle.std.proofs.Common.{Some, None, option_map, Result, Ok, Err, refl, sym, ap, subst, ◌∙◌}
 use Rattle.std.specs.Str.{bytes_eq}
 use Rattle.chunk_map.specs.Map.{Map}
@@ -18,7 +18,7 @@ use Rattle.play_steps.proofs.Keeping.{IsKept, Goes}
 use Rattle.play_steps.proofs.Unended.{EndEmpty, IsNoEnd, never_ends}
 use Rattle.cluster_play.specs.declared.status.Status.{Status}
 use Rattle.cluster_play.specs.declared.status.Status.TheVariants as status
-use Rattle.cluster_play.specs.Schedule.{Schedule, MarkedLines, bytes_played, marker, up_to_marker}
+use Rattle.cluster_play.specs.Schedule.{Schedule, bytes_played, marker, up_to_marker}
 use Rattle.cluster_play.specs.Schedule.{marked_by, settings_in, behind_conf, enclosed, unmarked}
 use Rattle.cluster_play.specs.Schedule.{schedule_of, player_of}
 use Rattle.cluster_play.specs.Plays.{dump_at, next_at, Plays}

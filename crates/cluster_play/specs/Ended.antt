@@ -5,6 +5,7 @@ use Rattle.outside_core.specs.Bytes.{Went, WentInPart}
 use Rattle.shard_core.specs.NodeStep.{NodeState, started}
 use Rattle.chunk_map.specs.Map.{Map}
 use Rattle.cluster_conf.specs.Conf.{Settings}
+use Rattle.router_state.specs.State.{RouterState, fresh_router}
 use Rattle.cluster_core.specs.Nodes.{Nodes}
 use Rattle.cluster_core.specs.Trace.{IsFresh}
 use Rattle.txn_model.specs.declared.ran.Ran.{Ran}
@@ -19,11 +20,14 @@ use Rattle.cluster_play.specs.Schedule.{Schedule, schedule_of, player_of}
 use Rattle.cluster_play.specs.Plays.{next_at, Turn, PlaysTo, Plays, IsCalm, IsRun}
 
 -- The nodes of a configuration, each as its start left it. A disk of more than 17 bytes is refused,
--- so where disks tell what they hold each shard starts from no record.
+-- so where disks tell what they hold each shard starts from no record, and each router at its first
+-- boot.
 pub record AreStarted (told : Type 0) (conf : Settings) (nodes : Nodes) : Type 0 where
   pub fresh : IsFresh conf.map nodes
   pub new : told → (n : ℕ) (s : NodeState) → slice_get nodes.shards n ≡ Some s
       → (faults : ℕ) × (started n [] faults ≡ Some s)
+  pub booted : told → (n : ℕ) (r : RouterState) → slice_get nodes.routers n ≡ Some r
+      → r ≡ fresh_router n 1 conf.map
   pub shards : length nodes.shards ≡ conf.shards
   pub routers : length nodes.routers ≡ conf.routers
 

@@ -3,3 +3,4 @@ pub mod Plays
 pub mod Ended
 pub mod Starting
 pub mod Steps
+pub mod Refusing

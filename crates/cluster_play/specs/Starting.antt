@@ -21,13 +21,13 @@ abbrev pub AllStarted : Type 0 → List NodeState → Type 0
 AllStarted told shards = (n : ℕ) (s : NodeState) → slice_get shards n ≡ Some s
     → IsStarted told n s
 
--- it is fresh, at some boot
-abbrev pub IsBooted : Map → ℕ → RouterState → Type 0
-IsBooted chunks n r = (boot : ℕ) × (r ≡ fresh_router n boot chunks)
+-- it is fresh, at some boot; at the first one, where its disk tells what it holds
+abbrev pub IsBooted : Type 0 → Map → ℕ → RouterState → Type 0
+IsBooted told chunks n r = (boot : ℕ) × (told → boot ≡ 1) × (r ≡ fresh_router n boot chunks)
 
-abbrev pub AllBooted : Map → List RouterState → Type 0
-AllBooted chunks routers = (n : ℕ) (r : RouterState) → slice_get routers n ≡ Some r
-    → IsBooted chunks n r
+abbrev pub AllBooted : Type 0 → Map → List RouterState → Type 0
+AllBooted told chunks routers = (n : ℕ) (r : RouterState) → slice_get routers n ≡ Some r
+    → IsBooted told chunks n r
 
 -- the states of nodes, and their disks
 

@@ -5,6 +5,7 @@ ghost use Rattle.shard_core.specs.NodeStep.{started};
 ghost use Rattle.cluster_play.specs.Ended.{place_of, AreStarted};
 ghost use Rattle.cluster_play.specs.Starting.{IsStarted, AllStarted, IsBooted, AllBooted, shard_states, router_states, shard_disks, router_disks, behind_shards, IsLone};
 ghost use Rattle.cluster_play.specs.Steps.{nodes_of, status_of, IsStartErr};
+ghost use Rattle.cluster_play.specs.Refusing.{IsYoung, RefusesFirst, Replaced, TakenOut, AreYoung, after_shards, after_routers, ShardRefused, RouterRefused, StopsAt, RefusesStarts, AllYoung};
 
 use crate::disks::{put_in, put_routers, put_shards};
 use crate::status::Status;
@@ -51,7 +52,11 @@ pub fn place_of(node: NodeId) -> u16
 
 /// Why a first start isn't made from a disk.
 fn check_new<D: Disk>(disk: &mut D) -> Result<(), NodeErr>
-    ensures { OnOk result (IsTrue (D.tells disk.new) → length (D.seen disk.new) ≤ 17) }
+    ensures new { OnOk result (IsTrue (D.tells disk.new) → length (D.seen disk.new) ≤ 17) }
+    ensures young { OnOk result (IsYoung (IsTrue (D.tells disk.old)) (D.seen disk.old)) }
+    ensures later { D.fault_count disk.old ≤ D.fault_count disk.new }
+    ensures refused { IfErr result (λ e. RefusesFirst (IsTrue (D.tells disk.old)) D.seen
+        D.fault_count e disk.old disk.new) }
 {
     match disk.len() {
         Ok(length) => {
@@ -70,8 +75,11 @@ fn first_shard<D: Disk>(
     shard: u16,
     disk: D,
 ) -> Result<ShardNode<DiskLog<D>>, (NodeErr, D)>
-    ensures { IfOk result
+    ensures started { IfOk result
         (λ n. IsStarted ((d : D) → IsTrue (D.tells d)) shard n.node) }
+    ensures young { OnOk result (IsYoung ((d : D) → IsTrue (D.tells d)) (D.seen disk)) }
+    ensures refused { IfErr result (λ e. RefusesFirst ((d : D) → IsTrue (D.tells d)) D.seen
+        D.fault_count e.0 disk e.1) }
 {
     let mut disk = disk;
     match check_new(&mut disk) {
@@ -90,11 +98,18 @@ fn first_router<D: Disk>(
     map: ChunkMap,
     disk: D,
 ) -> Result<RouterNode<DiskLog<D>>, (NodeErr, D)>
-    ensures { IfOk result (λ n. IsBooted map router n.router) }
+    ensures booted { IfOk result
+        (λ n. IsBooted ((d : D) → IsTrue (D.tells d)) map router n.router) }
+    ensures young { OnOk result (IsYoung ((d : D) → IsTrue (D.tells d)) (D.seen disk)) }
+    ensures refused { IfErr result (λ e. RefusesFirst ((d : D) → IsTrue (D.tells d)) D.seen
+        D.fault_count e.0 disk e.1) }
 {
     let mut disk = disk;
     match check_new(&mut disk) {
-        Ok(()) => RouterNode::start(alloc, router, map, disk),
+        Ok(()) => match RouterNode::start(alloc, router, map, disk) {
+            Ok(node) => Ok(node),
+            Err(refused) => Err(refused),
+        },
         Err(error) => Err((error, disk)),
     }
 }
@@ -116,6 +131,11 @@ impl<D: Disk> Nodes<D> {
         ensures capacity { vec_capacity self.new.shards ≡ vec_capacity self.old.shards }
         ensures room { vec_capacity disks.old ≤ vec_capacity disks.new }
         ensures routers { self.new.routers ≡ self.old.routers }
+        ensures disk { OnOk result (TakenOut
+            (λ d. IsYoung ((d : D) → IsTrue (D.tells d)) (D.seen d))
+            disks.old.items disks.new.items 0) }
+        ensures why { IfErr result (λ e. Replaced (RefusesFirst ((d : D) → IsTrue (D.tells d))
+            D.seen D.fault_count e) disks.old.items disks.new.items 0) }
     {
         match first_shard(alloc, shard, disks.remove(0)) {
             Ok(node) => {
@@ -141,8 +161,10 @@ impl<D: Disk> Nodes<D> {
         requires room { vec_len self.old.routers < vec_capacity self.old.routers }
         requires disk { place < vec_len disks.old }
         requires next { router ≡ vec_len self.old.routers }
-        requires booted { AllBooted map.now (router_states self.old.routers.items) }
-        ensures booted { AllBooted map.now (router_states self.new.routers.items) }
+        requires booted { AllBooted ((d : D) → IsTrue (D.tells d)) map.now
+            (router_states self.old.routers.items) }
+        ensures booted { AllBooted ((d : D) → IsTrue (D.tells d)) map.now
+            (router_states self.new.routers.items) }
         ensures more { OnOk result (vec_len self.new.routers ≡ vec_len self.old.routers + 1) }
         ensures same { OnErr result (vec_len self.new.routers ≡ vec_len self.old.routers) }
         ensures all { vec_len disks.new + vec_len self.new.routers
@@ -150,6 +172,11 @@ impl<D: Disk> Nodes<D> {
         ensures capacity { vec_capacity self.new.routers ≡ vec_capacity self.old.routers }
         ensures room { vec_capacity disks.old ≤ vec_capacity disks.new }
         ensures shards { self.new.shards ≡ self.old.shards }
+        ensures disk { OnOk result (TakenOut
+            (λ d. IsYoung ((d : D) → IsTrue (D.tells d)) (D.seen d))
+            disks.old.items disks.new.items place) }
+        ensures why { IfErr result (λ e. Replaced (RefusesFirst ((d : D) → IsTrue (D.tells d))
+            D.seen D.fault_count e) disks.old.items disks.new.items place) }
     {
         let Ok(map) = map.copy(alloc) else {
             return Err(NodeErr::Memory);
@@ -178,6 +205,12 @@ impl<D: Disk> Nodes<D> {
         ensures all { vec_len disks.new + vec_len self.new.shards ≡ 24 }
         ensures room { vec_capacity disks.old ≤ vec_capacity disks.new }
         ensures routers { self.new.routers ≡ self.old.routers }
+        ensures young { OnOk result (AreYoung ((d : D) → IsTrue (D.tells d)) D.seen
+            disks.old.items 0 conf.now.shards) }
+        ensures left { OnOk result
+            (disks.new.items ≡ after_shards disks.old.items conf.now.shards) }
+        ensures why { IfErr result (ShardRefused ((d : D) → IsTrue (D.tells d)) D.seen
+            D.fault_count conf.now (vec_len self.new.shards) disks.old.items disks.new.items) }
     {
         for shard in 0..conf.shards() {
             match self.start_shard(alloc, shard, disks) {
@@ -198,13 +231,19 @@ impl<D: Disk> Nodes<D> {
         requires none { vec_len self.old.routers ≡ 0 }
         requires room { conf.now.routers ≤ vec_capacity self.old.routers }
         requires disks { vec_len disks.old + conf.now.shards ≡ 24 }
-        ensures booted { AllBooted conf.now.map (router_states self.new.routers.items) }
+        ensures booted { AllBooted ((d : D) → IsTrue (D.tells d)) conf.now.map
+            (router_states self.new.routers.items) }
         ensures ok { OnOk result (vec_len self.new.routers ≡ conf.now.routers) }
         ensures few { vec_len self.new.routers ≤ 8 }
         ensures refused { IfErr result (IsStartErr conf.now) }
         ensures all { vec_len disks.new + vec_len self.new.routers ≡ vec_len disks.old }
         ensures room { vec_capacity disks.old ≤ vec_capacity disks.new }
         ensures shards { self.new.shards ≡ self.old.shards }
+        ensures young { OnOk result (AreYoung ((d : D) → IsTrue (D.tells d)) D.seen
+            disks.old.items (16 - conf.now.shards) conf.now.routers) }
+        ensures why { IfErr result (RouterRefused ((d : D) → IsTrue (D.tells d)) D.seen
+            D.fault_count conf.now (16 - conf.now.shards) (vec_len self.new.routers)
+            disks.old.items disks.new.items) }
     {
         let place = ROUTERS_AT - usize::from(conf.shards());
         for router in 0..conf.routers() {
@@ -228,6 +267,11 @@ impl<D: Disk> Nodes<D> {
         ensures all { vec_len disks.new + vec_len self.new.shards + vec_len self.new.routers ≡ 24 }
         ensures few { vec_len self.new.routers ≤ 8 }
         ensures room { vec_capacity disks.old ≤ vec_capacity disks.new }
+        ensures young { OnOk result (AllYoung ((d : D) → IsTrue (D.tells d)) D.seen conf.now
+            disks.old.items) }
+        ensures why { IfErr result (StopsAt ((d : D) → IsTrue (D.tells d)) D.seen D.fault_count
+            conf.now (vec_len self.new.shards) (vec_len self.new.routers) disks.old.items
+            disks.new.items) }
     {
         if self.shards.reserve(usize::from(conf.shards())).is_err()
             || self.routers.reserve(usize::from(conf.routers())).is_err()
@@ -250,6 +294,12 @@ impl<D: Disk> Nodes<D> {
         ensures refused { IfErr result (IsStartErr conf.now) }
         ensures all { OnErr result (vec_len disks.new ≡ 24) }
         ensures room { vec_capacity disks.old ≤ vec_capacity disks.new }
+        // A first start takes new disks alone; a refusal tells the first that isn't one, or that
+        // failed in this call.
+        ensures young { OnOk result (AllYoung ((d : D) → IsTrue (D.tells d)) D.seen conf.now
+            disks.old.items) }
+        ensures why { IfErr result (RefusesStarts ((d : D) → IsTrue (D.tells d)) D.seen
+            D.fault_count conf.now disks.old.items disks.new.items) }
     {
         let mut nodes = Nodes {
             shards: Vec::new(alloc),

@@ -6,6 +6,7 @@ ghost use Rattle.play_script.specs.Lines.{lines_of};
 ghost use Rattle.cluster_play.specs.Schedule.{bytes_played, schedule_of, player_of};
 ghost use Rattle.cluster_play.specs.Ended.{AreStarted, Ended};
 ghost use Rattle.cluster_play.specs.Starting.{IsLone};
+ghost use Rattle.cluster_play.specs.Refusing.{DisksSay};
 ghost use Rattle.cluster_play.specs.Steps.{nodes_of, Leaves, RoseAt, HasAll, PlaysUpTo, PlayStops, status_cut, status_behind, EndedOver};
 
 use crate::front::{Front, front_of};
@@ -124,6 +125,9 @@ fn play_front<K: Sink, D: Disk>(
         → Ended ((d : D) → IsTrue (D.tells d)) lines (K.held out.old) (K.held out.new) result }
     ensures fault { result ≡ Status.WriteFault
         → Rose (K.fault_count out.old) (K.fault_count out.new) }
+    ensures disks { (lines : List (List ℕ)) → schedule_of lines ≡ Ok front.now
+        → DisksSay ((d : D) → IsTrue (D.tells d)) D.seen D.fault_count lines disks.old.items
+        disks.new.items (K.held out.old) (K.held out.new) result }
     ensures all { vec_len disks.new ≡ 24 }
 {
     let conf = &front.conf;
@@ -154,6 +158,9 @@ fn play_lines<K: Sink, D: Disk>(
         (K.held out.new) result }
     ensures fault { result ≡ Status.WriteFault
         → Rose (K.fault_count out.old) (K.fault_count out.new) }
+    ensures disks { DisksSay ((d : D) → IsTrue (D.tells d)) D.seen D.fault_count
+        (lines_of lines.now) disks.old.items disks.new.items (K.held out.old) (K.held out.new)
+        result }
     ensures all { vec_len disks.new ≡ 24 }
 {
     match front_of(alloc, lines) {
@@ -196,6 +203,11 @@ pub fn play_input<K: Sink, D: Disk>(
     // A fault is answered only where the sink's count rose in this call.
     ensures fault { result ≡ Status.WriteFault
         → Rose (K.fault_count out.old) (K.fault_count out.new) }
+    // A disk is told of only where a node starts. At a first start it failed in this call, or has
+    // more than 17 bytes; where the nodes started, none of them has more.
+    ensures disks { DisksSay ((d : D) → IsTrue (D.tells d)) D.seen D.fault_count (lines_of
+        (bytes_played input.bytes.items input.end)) disks.old.items disks.new.items
+        (K.held out.old) (K.held out.new) result }
     ensures all { vec_len disks.new ≡ 24 }
 {
     match bytes_played(input) {

@@ -1,22 +1,31 @@
 -- A schedule has one status where nothing outside fails, and the one that was found is it.
-use Rattle.std.proofs.Common.{◌≡◌, inl, inr, ℕ, List, [], Option, Some, Result, Ok, Err, refl, sym}
-use Rattle.std.proofs.Common.{ap, subst, ◌∙◌}
+use Rattle.std.proofs.Common.{◌≡◌, inl, inr, ℕ, List, [], ◌∷◌, Option, Some, None, Result, Ok, Err}
+use Rattle.std.proofs.Common.{refl, sym, ap, subst, ◌∙◌}
+use Rattle.chunk_map.specs.Map.{Map}
+use Rattle.txn_types.specs.declared.node.NodeId.TheVariants.{Shard, Router}
+use Rattle.txn_model.specs.declared.ran.Ran.{Ran}
+use Rattle.txn_model.specs.declared.ran.Ran.TheVariants.{Step, Swapped}
 use Rattle.cluster_core.specs.Nodes.{Nodes}
 use Rattle.play_steps.specs.declared.want.Want.{Want}
 use Rattle.play_steps.specs.declared.want.Want.TheVariants as want
+use Rattle.play_steps.specs.Player.{Player}
 use Rattle.cluster_conf.specs.Conf.{Settings}
 use Rattle.cluster_play.specs.declared.status.Status.{Status}
 use Rattle.cluster_play.specs.declared.status.Status.TheVariants as status
 use Rattle.cluster_play.specs.Schedule.{Schedule, schedule_of, player_of}
-use Rattle.cluster_play.specs.Plays.{Plays}
+use Rattle.cluster_play.specs.Plays.{Plays, PlaysTo}
 use Rattle.cluster_play.specs.Steps.{status_at}
 use Rattle.cluster_play.specs.Ended.{AreStarted, Played, Ended}
-use Rattle.course_laws.specs.Course.{AreSame, HaveNothingInHand}
-use Rattle.course_laws.specs.Ends.{ComesTo, Ends, IsRestored, IsOnly, IsFound}
+use Rattle.restart_laws.specs.Restarts.{FitsAt, RestartsFit}
+use Rattle.restart_laws.proofs.Fitting.{restarts_fit}
+use Rattle.course_laws.specs.Course.{AreRestored, AreSame, BringsBack, HaveNothingInHand}
+use Rattle.course_laws.specs.Course.{RestartsBringBack}
+use Rattle.course_laws.specs.Ends.{ComesTo, Ends, IsRestored, IsOnly, IsFound, MayRestart}
 use Rattle.course_laws.specs.Ends.{IsFoundAnywhere, FoundBy}
 use Rattle.course_laws.proofs.Taking.{starts_empty}
 use Rattle.course_laws.proofs.Courses.{going_first, plays_once}
 use Rattle.course_laws.proofs.Lines.{ok_same}
+use Rattle.course_laws.proofs.Starting.{starts_same}
 
 -- what lines are is one thing
 
@@ -68,10 +77,39 @@ pub started_empty : (told : Type 0) (conf : Settings) (start : Nodes)
 started_empty told conf start h n s there =
     let one = h.fresh.shards n s there in starts_empty n one.0 one.1 s one.2
 
+item_back : (told : Type 0) (nodes : Nodes) (item : Option Ran) → told → FitsAt nodes item
+    → BringsBack told nodes item
+item_back told nodes None t fit = tt
+item_back told nodes (Some (Step node e a faults)) t fit = tt
+item_back told nodes (Some (Swapped (Shard n))) t fit = (t, λ s there. (fit s there).0)
+item_back told nodes (Some (Swapped (Router n))) t fit = t
+
+brings_back : (told : Type 0) (chunks : Map) (p : Player) (start : Nodes)
+    (items : List (Option Ran)) (text : List ℕ) (q : Player) (behind : Nodes) → told
+    → (h : PlaysTo told chunks p start items text q behind)
+    → RestartsFit told chunks p start items text q behind h
+    → RestartsBringBack told chunks p start items text q behind h
+brings_back told chunks p start [] text q behind t h fits = tt
+brings_back told chunks p start (item ∷ items) text q behind t h fits = (
+  item_back told start item t fits.0,
+  brings_back told chunks h.2 h.3 items h.1 q behind t h.6 fits.1,
+)
+
+restored_by : (told : Type 0) (lines : List (List ℕ)) (last : Want) (held held' : Option (List ℕ))
+    (w : Played told lines last held held') → MayRestart told lines last held held' w
+    → AreRestored told w.schedule.conf.map (player_of w.schedule) w.start w.played.items
+    w.played.plays.front w.played.plays.player w.played.behind w.played.plays.turns
+restored_by told lines last held held' w (inl one) =
+    inr (brings_back told w.schedule.conf.map (player_of w.schedule) w.start w.played.items
+    w.played.plays.front w.played.plays.player w.played.behind one.0 w.played.plays.turns
+    (restarts_fit told lines w.schedule w.start w.played.items w.played.plays.front
+    w.played.plays.player w.played.behind one.0 w.reads one.1 w.started w.played.plays.turns))
+restored_by told lines last held held' w (inr restored) = restored
+
 is_found : (told : Type 0) (lines : List (List ℕ)) (last : Want) (held held' : Option (List ℕ))
     (w : Played told lines last held held') (s : Status) → status_at last ≡ Some s
     → IsFound told lines last held held' w s
-is_found told lines last held held' w s ends well restored =
+is_found told lines last held held' w s ends well may =
     let comes : ComesTo told lines w.start w.played.text s = record {
       schedule = w.schedule;
       reads = w.reads;
@@ -82,11 +120,17 @@ is_found told lines last held held' w s ends well restored =
       undisturbed = well;
       ends = ends;
     } in
-    let only : IsOnly told lines w.start w.played.text s = λ other status e.
-    let once = ends_once told lines w.start w.start w.played.text other s status refl
+    let restored = restored_by told lines last held held' w may in
+    let only : (others : Nodes) → AreSame w.start others
+    → IsOnly told lines others w.played.text s = λ others same other status e.
+    let once = ends_once told lines w.start others w.played.text other s status same
     (started_empty told w.schedule.conf w.start w.started) (inr comes) restored e in
-    (sym once.0, sym once.1) in
-    (inr comes, only)
+    (sym once.0, sym once.1) in (
+      inr comes,
+      only w.start refl,
+      λ t others started. only others
+          (starts_same told w.schedule.conf w.start others t w.started started),
+    )
 
 anywhere : (told : Type 0) (lines : List (List ℕ)) (s : Status) → schedule_of lines ≡ Err s
     → IsFoundAnywhere told lines s

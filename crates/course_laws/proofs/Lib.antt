@@ -3,6 +3,7 @@ pub mod Nodes
 pub mod Alone
 pub mod Doing
 pub mod Courses
+pub mod Starting
 pub mod Finding
 pub mod Lines
 pub mod Judging

@@ -2,6 +2,7 @@
 use Rattle.std.specs.Prelude.{◌≡◌, ◌⊎◌, ℕ, List, [], Option, Some, Err, Ok}
 use Rattle.std.proofs.Common.{inl, inr}
 use Rattle.txn_model.specs.declared.ran.Ran.{Ran}
+use Rattle.cluster_conf.specs.Conf.{Settings}
 use Rattle.cluster_core.specs.Nodes.{Nodes}
 use Rattle.play_steps.specs.declared.want.Want.{Want}
 use Rattle.play_steps.specs.declared.want.Want.TheVariants as want
@@ -10,7 +11,7 @@ use Rattle.cluster_play.specs.declared.status.Status.TheVariants as status
 use Rattle.cluster_play.specs.Schedule.{Schedule, schedule_of, player_of}
 use Rattle.cluster_play.specs.Plays.{Plays}
 use Rattle.cluster_play.specs.Steps.{status_at}
-use Rattle.cluster_play.specs.Ended.{Played, Ended}
+use Rattle.cluster_play.specs.Ended.{AreStarted, Played, Ended}
 use Rattle.course_laws.specs.Course.{AreUndisturbed, AreRestored}
 
 -- the schedule that lines are was played over these nodes, undisturbed, to where this status ends
@@ -45,14 +46,27 @@ abbrev pub IsOnly : Type 0 → List (List ℕ) → Nodes → List ℕ → Status
 IsOnly told lines start text s = (other : List ℕ) (status : Status)
     → Ends told lines start other status → (status ≡ s) × (other ≡ text)
 
+-- so over any nodes of the configuration that start on new disks
+abbrev pub IsOnlyOnNew : Type 0 → List (List ℕ) → Settings → List ℕ → Status → Type 0
+IsOnlyOnNew told lines conf text s = (start : Nodes) → AreStarted told conf start
+    → IsOnly told lines start text s
+
+-- Restarts bring back what stood: over one shard always, where disks tell what they hold (`told`).
+abbrev pub MayRestart : (told : Type 0) → (lines : List (List ℕ)) → (last : Want)
+    → (held held' : Option (List ℕ)) → Played told lines last held held' → Type 0
+MayRestart told lines last held held' w = (told × (w.schedule.conf.shards ≡ 1))
+    ⊎ AreRestored told w.schedule.conf.map (player_of w.schedule) w.start w.played.items
+    w.played.plays.front w.played.plays.player w.played.behind w.played.plays.turns
+
 -- The status of what was played undisturbed, where restarts bring back what stood, is the only one
--- that the schedule has over the nodes that it started from.
+-- that the schedule has over the nodes that it started from; and where disks tell what they hold,
+-- over any that start on new disks.
 abbrev pub IsFound : (told : Type 0) → (lines : List (List ℕ)) → (last : Want)
     → (held held' : Option (List ℕ)) → Played told lines last held held' → Status → Type 0
 IsFound told lines last held held' w s = AreUndisturbed w.played.items
-    → AreRestored told w.schedule.conf.map (player_of w.schedule) w.start w.played.items
-    w.played.plays.front w.played.plays.player w.played.behind w.played.plays.turns
+    → MayRestart told lines last held held' w
     → Ends told lines w.start w.played.text s × IsOnly told lines w.start w.played.text s
+    × (told → IsOnlyOnNew told lines w.schedule.conf w.played.text s)
 
 -- lines that are no schedule have one status over any nodes
 abbrev pub IsFoundAnywhere : Type 0 → List (List ℕ) → Status → Type 0

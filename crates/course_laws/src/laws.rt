@@ -71,7 +71,9 @@ pub fn a_schedule_has_one_status<D: Disk>()
         → (s ≡ s') × (text ≡ text') }
 {}
 
-/// So the status that a playing ended with, where nothing outside failed in it, is the schedule's.
+/// So the status that a playing ended with, where nothing outside failed in it, is the schedule's:
+/// over the nodes that it started from, and where disks tell what they hold, over any that start on
+/// new disks. Over one shard that is so with any restarts.
 pub fn the_status_that_was_found_is_the_only_one<D: Disk>()
     ensures { let told : Type 0 = (d : D) → IsTrue (D.tells d) in
         (lines : List (List ℕ)) (held held' : Option (List ℕ)) (s : Status)

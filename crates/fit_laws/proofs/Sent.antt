@@ -1,16 +1,10 @@
 -- Each statement that a router sends fits, where what clients send is bytes.
-use Rattle.std.proofs.Common.{◌≡◌, ◌+◌, ◌<◌, ◌^◌, max, ℕ, Bool, true, false, All, List, [], ◌∷◌}
-use Rattle.std.proofs.Common.{◌++◌}
-use Rattle.std.proofs.Common.{cond, Option, Some, None, Result, Ok, Err, refl, sym, ap, subst}
-use Rattle.std.proofs.Common.{arith}
-use Rattle.std.proofs.Common.{if◌then◌else◌, filter}
+use Rattle.std.proofs.Common.{◌≡◌, ◌<◌, ◌^◌, max, ℕ, Bool, true, false, All, List, [], ◌∷◌}
+use Rattle.std.proofs.Common.{Option, Some, None, Result, Ok, Err, refl, sym, subst}
+use Rattle.std.proofs.Common.{if◌then◌else◌}
 use Rattle.std.specs.Prelude.{slice_get, slice_index}
 use Rattle.std.proofs.lemmas.List.Elements.{All-nil, All-cons, All-append, All-head, All-tail}
 use Rattle.std.proofs.lemmas.List.Elements.{All-contains, All-filter, All-weaker}
-use Rattle.outcomes.specs.Bind.{◌>>=◌}
-use Rattle.op_msg.specs.Reading.{frame_of}
-use Rattle.op_msg.specs.declared.frame.Frame.{Frame}
-use Rattle.op_msg.specs.declared.frame.FrameErr.{FrameErr}
 use Rattle.txn_types.specs.declared.event.Happening.{Happening}
 use Rattle.txn_types.specs.declared.event.Happening.TheVariants as what
 use Rattle.txn_types.specs.declared.event.NodeAnswer.{NodeAnswer}
@@ -22,20 +16,12 @@ use Rattle.txn_types.specs.declared.message.Statement.{Statement as Sent}
 use Rattle.txn_types.specs.declared.node.NodeId.{NodeId}
 use Rattle.txn_types.specs.declared.node.NodeId.TheVariants.{Shard, Router}
 use Rattle.txn_types.specs.declared.id.Id.{Id}
-use Rattle.txn_types.specs.declared.operation.InsertItem.{InsertItem}
 use Rattle.txn_types.specs.declared.operation.Op.{Op}
 use Rattle.txn_types.specs.declared.operation.Op.TheVariants as op
 use Rattle.txn_semantics.specs.Meaning.{document_rules, ns_of}
 use Rattle.txn_semantics.specs.Splits.{goes, here, part_of}
 use Rattle.chunk_map.specs.Map.{Map}
-use Rattle.chunk_map.specs.Parts.{part_at}
 use Rattle.chunk_map.specs.Place.{shard_of}
-use Rattle.crud_parse.specs.declared.error.CrudErr.{CrudErr}
-use Rattle.command_parse.specs.Operations.{op_of, checked}
-use Rattle.command_parse.specs.declared.command.Command.{Command}
-use Rattle.command_parse.specs.declared.command.Command.TheVariants as command
-use Rattle.client_cmd.specs.Commands as cmd
-use Rattle.client_cmd.specs.declared.error.CmdErr.{CmdErr}
 use Rattle.client_cmd.specs.declared.request.Request.{Request}
 use Rattle.client_cmd.specs.declared.request.Request.TheVariants as request
 use Rattle.router_plan.specs.Messages as messages
@@ -52,71 +38,9 @@ use Rattle.cluster_core.specs.Routers.{Asked, asked_by, asked_at, request_at, is
 use Rattle.answer_laws.specs.Opened.{opened_at, opened_by, opened_from}
 use Rattle.answer_laws.specs.Parts.{IsPart, SentFit, SentTo}
 use Rattle.answer_laws.proofs.Running.{all_parts}
-use Rattle.told_laws.proofs.Requests.{asked_case, cmd_bind, cmd_is}
 use Rattle.request_laws.specs.Fitting.{InsertFits, OpFits}
-use Rattle.request_laws.proofs.Requests.{FrameRead, frame_read, op_fits}
 use Rattle.fit_laws.specs.Bytes.{AreOfBytes, BringsBytes, IsOfBytes, StatementFits}
-
--- Requests.
-
-as_ok : (r : Result Op CrudErr) (o : Op) → cmd.as_command r ≡ Ok o → r ≡ Ok o
-as_ok (Ok x) o e = ap (λ (y : Op). Ok y) (cmd_is x o e)
-as_ok (Err d) o e = absurd cc
-
--- what a statement asks
-abbrev op_in : Request → Option Op
-op_in (request.Statement o txn at after more time) = Some o
-op_in other = None
-
-abbrev FitsIn : Option Op → Type 0
-FitsIn None = Unit {0}
-FitsIn (Some o) = OpFits o
-
-by_ids : (c : Command) (frame : Frame) (r : Request) → FrameRead frame
-    → cmd.request_by c frame ≡ Ok r
-    → FitsIn (op_in r)
-by_ids command.Ping frame r f e = let x = cmd_bind (cmd.as_command (checked command.Ping frame)) _ r
-    e in subst (λ (q : Request). FitsIn (op_in q)) (cmd_is _ r x.2) tt
-by_ids (command.Hello old_name) frame r f e = let x = cmd_bind
-    (cmd.as_command (checked (command.Hello old_name) frame)) _ r e in subst
-    (λ (q : Request). FitsIn (op_in q)) (cmd_is _ r x.2) tt
-by_ids (command.Statement s) frame r f e =
-    let x = cmd_bind (cmd.as_command (op_of s frame)) _ r e in
-    subst (λ (q : Request). FitsIn (op_in q)) (cmd_is _ r x.2)
-    (op_fits s frame x.0 (as_ok (op_of s frame) x.0 x.1) f)
-by_ids command.Commit frame r f e = let x =
-    cmd_bind (cmd.as_command (checked command.Commit frame)) _
-    r e in subst (λ (q : Request). FitsIn (op_in q)) (cmd_is _ r x.2) tt
-by_ids command.Abort frame r f e = let x =
-    cmd_bind (cmd.as_command (checked command.Abort frame)) _ r
-    e in subst (λ (q : Request). FitsIn (op_in q)) (cmd_is _ r x.2) tt
-by_ids command.EndSessions frame r f e = let x = cmd_bind
-    (cmd.as_command (checked command.EndSessions frame)) _ r e in subst
-    (λ (q : Request). FitsIn (op_in q)) (cmd_is _ r x.2) tt
-
-request_ids : (wall : ℕ) (frame : Frame) (r : Request) → FrameRead frame
-    → cmd.request_of wall frame ≡ Ok r
-    → FitsIn (op_in r)
-unfolding cmd.request_of
-request_ids wall frame r f e =
-    let a = cmd_bind (cmd.command_in frame) _ r e in
-    let b = cmd_bind (cmd.refused_where (cmd.is_unacknowledged frame) _) _ r a.2 in
-    let c = cmd_bind (cmd.refused_where (cmd.is_retried a.0 frame) _) _ r b.2 in
-    let d = cmd_bind (cmd.not_ahead wall (cmd.time_ahead wall frame.body)) _ r c.2 in
-    by_ids a.0 frame r f d.2
-
-read_case : (wall : ℕ) (x : Result Frame FrameErr) (r : Request)
-    → ((f : Frame) → x ≡ Ok f → FrameRead f) → messages.read_by wall x ≡ Ok r → FitsIn (op_in r)
-read_case wall (Ok frame) r f e = request_ids wall frame r (f frame refl)
-    (asked_case (cmd.request_of wall frame) r e)
-read_case wall (Err d) r f e = absurd cc
-
-asked_ids : (wall : ℕ) (bytes : List ℕ) (r : Request)
-    → ((place : ℕ) → slice_index bytes place < 2 ^ 8) → messages.asked_in wall bytes ≡ Ok r
-    → FitsIn (op_in r)
-unfolding messages.asked_in
-asked_ids wall bytes r fits e = read_case wall (frame_of bytes) r
-    (λ frame read. frame_read bytes frame (λ i. omega (arith, fits i)) read) e
+use Rattle.fit_laws.proofs.Asked.{RequestFits, asked_fits}
 
 -- What routers open.
 
@@ -125,9 +49,9 @@ OpenFits u = OpFits u.op
 
 abbrev AskedFits : Option Asked → Type 0
 AskedFits None = Unit {0}
-AskedFits (Some asked) = FitsIn (op_in asked.1)
+AskedFits (Some asked) = RequestFits asked.1
 
-taken_ids : (conn : ℕ) (x : Result Request Unserved) → ((r : Request) → x ≡ Ok r → FitsIn (op_in r))
+taken_ids : (conn : ℕ) (x : Result Request Unserved) → ((r : Request) → x ≡ Ok r → RequestFits r)
     → AskedFits (asked_by conn x)
 taken_ids conn (Ok r) h = h r refl
 taken_ids conn (Err why) h = tt
@@ -137,7 +61,7 @@ client_ids : (conn : ℕ) (test : Bool) (wall : ℕ) (bytes : List ℕ)
     → AskedFits (if test then None else asked_by conn (messages.asked_in wall bytes))
 client_ids conn true wall bytes fits = tt
 client_ids conn false wall bytes fits = taken_ids conn (messages.asked_in wall bytes)
-    (λ r is. asked_ids wall bytes r fits is)
+    (λ r is. asked_fits wall bytes r fits is)
 
 at_ids : (r : RouterState) (wall : ℕ) (w : Happening) → BringsBytes w
     → AskedFits (asked_at r wall w)
@@ -164,7 +88,7 @@ opens_ids n None a h = All-nil OpenFits
 opens_ids n (Some (conn, request.Ping more time)) a h = All-nil OpenFits
 opens_ids n (Some (conn, request.Hello old_name more time)) a h = All-nil OpenFits
 opens_ids n (Some (conn, request.Statement o txn at after more time)) a h = parts_ids n conn o
-    (statements_in a) h
+    (statements_in a) h.0
 opens_ids n (Some (conn, request.Commit txn t more time)) a h = All-nil OpenFits
 opens_ids n (Some (conn, request.Abort txn more time)) a h = All-nil OpenFits
 opens_ids n (Some (conn, request.EndSessions ids more time)) a h = All-nil OpenFits

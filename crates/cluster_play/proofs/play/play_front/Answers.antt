@@ -4,7 +4,8 @@ use Rattle.std.proofs.lemmas.List.{length-map}
 use Rattle.play_script.specs.Lines.{lines_of}
 use Rattle.cluster_play.specs.Schedule.{Schedule}
 use Rattle.cluster_play.specs.Steps.{nodes_of}
-use Rattle.cluster_play.proofs.Endings.{front_over}
+use Rattle.cluster_play.proofs.Endings.{front_at, front_over}
+use Rattle.cluster_play.proofs.Saying.{disks_before, disks_over}
 use Rattle.cluster_play.proofs.play.play_front.Goals as goal
 
 pub new-player-requires : goal.new-player-requires
@@ -42,3 +43,33 @@ returns-in-Ok-clause-ended g c = λ lines reads.
     (reads ∙ ap (λ (x : Schedule). Ok x) (sym c.front.view_is)) c.in-Ok.ensures.started
     c.map.ensures.map c.new-player.ensures c.shards.ensures.value c.routers.ensures
     c.play_over.ensures.ended
+
+pub returns-in-Ok-clause-disks : goal.returns-in-Ok-clause-disks
+returns-in-Ok-clause-disks g c = λ lines reads.
+    let told = (d : g.row.D.Denot) → IsTrue (g.D.Disk.tells d) in
+    let s : Schedule = record {
+      conf = c.front.inside.conf;
+      taken = c.front.inside.taken;
+      lines = lines_of c.front.inside.lines.now;
+    } in
+    let start = nodes_of c.in-Ok.nodes.shards.items c.in-Ok.nodes.routers.items in
+    disks_over told g.D.Disk.seen g.D.Disk.fault_count lines s start c.args.disks.now.items
+    c.play_over.new.disks.items (g.K.Sink.held c.args.out.now) (g.K.Sink.held c.play_over.new.out)
+    c.play_over.result (reads ∙ ap (λ (x : Schedule). Ok x) (sym c.front.view_is))
+    c.in-Ok.ensures.started c.in-Ok.ensures.young
+    (front_at told s start (g.K.Sink.held c.args.out.now) (g.K.Sink.held c.play_over.new.out)
+    c.play_over.result c.map.result.now c.new-player.result c.shards.result c.routers.result
+    c.map.ensures.map c.new-player.ensures c.shards.ensures.value c.routers.ensures
+    c.play_over.ensures.ended)
+
+pub returns-in-Err-clause-disks : goal.returns-in-Err-clause-disks
+returns-in-Err-clause-disks g c = λ lines reads.
+    let told = (d : g.row.D.Denot) → IsTrue (g.D.Disk.tells d) in
+    let s : Schedule = record {
+      conf = c.front.inside.conf;
+      taken = c.front.inside.taken;
+      lines = lines_of c.front.inside.lines.now;
+    } in
+    disks_before told g.D.Disk.seen g.D.Disk.fault_count lines s c.args.disks.now.items
+    c.start.new.disks.items (g.K.Sink.held c.args.out.now) c.in-Err.status
+    (reads ∙ ap (λ (x : Schedule). Ok x) (sym c.front.view_is)) c.in-Err.ensures.why
