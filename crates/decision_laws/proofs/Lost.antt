@@ -283,7 +283,7 @@ module _ (chunks : Map) (is : IsMap chunks) (one : chunks.shards ≡ 1) (tag : T
 
 -- No entry is of a transaction that no request asked to commit.
 
-no_entry : (P : Entry → Type 0) (entries : List Entry) (tag : Tag) → Each P entries
+pub no_entry : (P : Entry → Type 0) (entries : List Entry) (tag : Tag) → Each P entries
     → ((e : Entry) → P e → e.tag ≡ tag → ⊥) → has_entry entries tag ≡ false
 no_entry P [] tag h f = refl
 no_entry P (e ∷ entries) tag h f =

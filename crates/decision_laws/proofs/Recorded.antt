@@ -38,7 +38,7 @@ use Rattle.one_shard_laws.proofs.Joint.{runs_alone}
 use Rattle.decision_laws.specs.Ends.{IsThere, TellsRight}
 
 -- the record commits the transaction
-abbrev Commits : Tag → Rec → Type 0
+abbrev pub Commits : Tag → Rec → Type 0
 Commits tag (rec.Commit there lsid number read_at at writes) = there ≡ tag
 Commits tag other = ⊥
 
@@ -55,7 +55,7 @@ commits_as P tag at (rec.Decided d) h k = absurd k
 commits_as P tag at (rec.CoordStart there lsid number parts) h k = absurd k
 commits_as P tag at (rec.CoordEnd there) h k = absurd k
 
-abbrev is_its : Tag → Entry → Bool
+abbrev pub is_its : Tag → Entry → Bool
 is_its tag e = same_tag e.tag tag
 
 or_first : (a b : Bool) → a ≡ true → (a || b) ≡ true
@@ -145,17 +145,17 @@ module _ (nodes : Nodes) (h : OneShard nodes) where
   tells_right (msg.Outcome o) k = told_there o o.told k
   tells_right other k = tt
 
-only_node : (x y : NodeState) (n : ℕ) → slice_get (x ∷ []) n ≡ Some y → y ≡ x
-only_node x y zero e = grind (arith, e)
-only_node x y (suc n) e = let no : None ≡ Some y = e in absurd (grind (arith, no))
+pub only : {A : Type 0} (x y : A) (n : ℕ) → slice_get (x ∷ []) n ≡ Some y → (n ≡ 0) × (y ≡ x)
+only x y zero is = let one : y ≡ x = grind (arith, is) in (refl, one)
+only x y (suc n) is = let wrong : None ≡ Some y = is in cc
 
 pub stands_start : (chunks : Map) (start : Nodes) → StartsAlone chunks start → Stands start
 stands_start chunks start h =
     stands_fresh chunks start h.fresh
     (λ number n is.
-    let one = only_node h.node n number
+    let one = only h.node n number
     (subst (λ (shards : List NodeState). slice_get shards number ≡ Some n) h.shards is) in
-    subst (λ (x : NodeState). DiskStands start x.records) (sym one)
+    subst (λ (x : NodeState). DiskStands start x.records) (sym one.1)
     (new_disk start 0 h.faults h.node h.starts))
 
 pub commits_told : (chunks : Map) (start : Nodes) (run : List Ran) (trace : List Nodes)

@@ -1,5 +1,5 @@
 -- What is sent and kept about the ends of transactions.
-use Rattle.std.specs.Prelude.{◌≡◌, ℕ, true, List, Contains, Some, slice_get}
+use Rattle.std.specs.Prelude.{◌≡◌, ℕ, true, false, List, Contains, Some, slice_get}
 use Rattle.txn_types.specs.declared.decision.Told.{Told}
 use Rattle.txn_types.specs.declared.decision.Told.TheVariants as told_as
 use Rattle.txn_types.specs.declared.message.Commit.{Commit}
@@ -58,6 +58,16 @@ IsThere entries tag other = Unit {0}
 abbrev pub TellsRight : List Entry → Msg → Type 0
 TellsRight entries (msg.Outcome o) = IsThere entries o.tag o.told
 TellsRight entries other = Unit {0}
+
+-- what is told as aborted is not
+
+abbrev pub IsNever : List Entry → Tag → Told → Type 0
+IsNever entries tag (told_as.Aborted why) = has_entry entries tag ≡ false
+IsNever entries tag other = Unit {0}
+
+abbrev pub TellsNever : List Entry → Msg → Type 0
+TellsNever entries (msg.Outcome o) = IsNever entries o.tag o.told
+TellsNever entries other = Unit {0}
 
 -- no request to commit it was made
 abbrev pub IsUnasked : Phase → Type 0

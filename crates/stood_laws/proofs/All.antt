@@ -15,6 +15,7 @@ use Rattle.cluster_core.specs.Right.{past_of}
 use Rattle.stood_laws.specs.Ruled.{is_shown, RecoversEarlier}
 use Rattle.stood_laws.proofs.Conflicting.{conflict_stood}
 use Rattle.stood_laws.proofs.Earlier.{unavailable_stood}
+use Rattle.stood_laws.proofs.Meanings.{refusal_stood, large_stood}
 use Rattle.stood_laws.proofs.Ruled.{ruled_stood}
 
 module _ (chunks : Map) (start : Nodes) (run : List Ran) (trace : List Nodes) (now : Nodes)
@@ -55,6 +56,8 @@ module _ (chunks : Map) (start : Nodes) (run : List Ran) (trace : List Nodes) (n
       ruled_stood chunks start run trace now alone is within shard tag
       (cause.SnapshotTooOld at floor) m made new refl
   all_stood cause.Memory made new shown = tt
-  all_stood (cause.Statement err) made new shown = cc
-  all_stood (cause.Volume bytes) made new shown = cc
+  all_stood (cause.Statement err) made new shown =
+      refusal_stood chunks start run trace now map alone is within shard tag m err made new
+  all_stood (cause.Volume bytes) made new shown =
+      large_stood chunks start run trace now map alone is within shard tag m bytes made new
   all_stood (cause.ClientAbort reason) made new shown = cc

@@ -12,4 +12,9 @@ pub mod Earlier
 pub mod Stamps
 pub mod Times
 pub mod Conflicting
+pub mod Views
+pub mod Beyond
+pub mod Before
+pub mod Meant
+pub mod Meanings
 pub mod All

@@ -20,8 +20,8 @@ use Rattle.world_laws.proofs.Lists.{get_set, set_at}
 use Rattle.world_laws.proofs.Steps.{step_does}
 
 -- the nodes before the step come of a run from the start, and those after it lead to the end
-pub record Placed (old : Nodes) (trace : List Nodes) (now : Nodes) (i : ℕ) (nodes : Nodes)
-    (ran : Ran) : Type 0 where
+pub record Placed (old : Nodes) (run : List Ran) (trace : List Nodes) (now : Nodes) (i : ℕ)
+    (nodes : Nodes) (ran : Ran) : Type 0 where
   pub before_run : List Ran
   pub before_trace : List Nodes
   pub comes : IsTrace old before_run before_trace nodes
@@ -31,6 +31,7 @@ pub record Placed (old : Nodes) (trace : List Nodes) (now : Nodes) (i : ℕ) (no
   pub after_run : List Ran
   pub after_trace : List Nodes
   pub goes : IsTrace next after_run after_trace now
+  pub whole : run ≡ before_run ++ ran ∷ after_run
 
 first_of : (old : Nodes) (run : List Ran) (trace : List Nodes) (now : Nodes)
     → IsTrace old run trace now → slice_get (trace ++ now ∷ []) 0 ≡ Some old
@@ -50,7 +51,7 @@ after_place x xs i y h =
 pub place_of : (old : Nodes) (run : List Ran) (trace : List Nodes) (now : Nodes)
     → IsTrace old run trace now → (i : ℕ) (nodes : Nodes) (ran : Ran)
     → slice_get trace i ≡ Some nodes → slice_get run i ≡ Some ran
-    → Placed old trace now i nodes ran
+    → Placed old run trace now i nodes ran
 place_of old [] [] now h i nodes ran before step = let wrong : None ≡ Some ran = step in cc
 place_of old [] (n ∷ trace) now h i nodes ran before step = absurd h
 place_of old (r ∷ run) [] now h i nodes ran before step = absurd h
@@ -68,6 +69,7 @@ place_of old (r ∷ run) (n ∷ trace) now h zero nodes ran before step =
       after_run = run;
       after_trace = trace;
       goes = h.1.2;
+      whole = ap (λ (x : Ran). x ∷ run) this;
     }
 place_of old (r ∷ run) (n ∷ trace) now h (suc i) nodes ran before step =
     let p = place_of h.1.0 run trace now h.1.2 i nodes ran before step in
@@ -81,6 +83,7 @@ place_of old (r ∷ run) (n ∷ trace) now h (suc i) nodes ran before step =
       after_run = p.after_run;
       after_trace = p.after_trace;
       goes = p.goes;
+      whole = ap (λ (xs : List Ran). r ∷ xs) p.whole;
     }
 
 -- A stopped shard's disk has failed since its start.

@@ -53,7 +53,8 @@ use Rattle.participant.proofs.Moving.{entry_here}
 use Rattle.participant.proofs.Tags.{lsid_same, tag_same, tag_self}
 use Rattle.part_laws.specs.Sound.{Opens}
 use Rattle.part_laws.specs.Parts.{AtState, AtSession}
-use Rattle.stood_laws.specs.Because.{moment_of, Sees, DoneOver, IsNewer}
+use Rattle.part_laws.proofs.Turns.{same_boot}
+use Rattle.stood_laws.specs.Because.{moment_of, Sees, DoneOver, IsNewer, IsAnewHere}
 use Rattle.stood_laws.specs.Because.{Because, IsElsewhere, CommitBecause, RecoverBecause}
 
 -- the session's transaction has this tag, and had ended with the cause
@@ -176,7 +177,7 @@ module _ (p : Part) (opens : Opens) (last wall : ℕ) (m : Statement)
         (λ other read_at h. cc),
   )
 
-  module _ (own : Option Open) (is : mine p m ≡ own) where
+  module _ (own : Option Open) (is : mine p m ≡ own) (anew : IsAnewHere p m) where
     abbrev at : ℕ
     at = moment_of last m own
 
@@ -197,6 +198,7 @@ module _ (p : Part) (opens : Opens) (last wall : ℕ) (m : Statement)
       done_now reply writes h,
       ap (λ (o : Option Open). volume (writes_with o writes)) (sym is),
       grind (arith, above),
+      anew,
     )
 
     clear_for : (reply : OpReply) (writes : List Write) (c : Option (Id × By)) → Done reply writes
@@ -223,6 +225,7 @@ module _ (p : Part) (opens : Opens) (last wall : ℕ) (m : Statement)
           ap (λ (o : Option Open).
               scan p.store (ns_of m.op) (touched m.op) (moment_of last m o) m.tag) is ∙ sees,
           h,
+          anew,
         )
     meant_for rows (Ok done) sees h =
         clear_for done.0 done.1 (conflict p.store at m.tag done.1) (rows, sees, h) refl
@@ -238,15 +241,19 @@ module _ (p : Part) (opens : Opens) (last wall : ℕ) (m : Statement)
     performed_for = scanned_for (scan p.store (ns_of m.op) (touched m.op) at m.tag) refl
 
   -- the first statement of a transaction: none of it is live
-  module _ (none : mine p m ≡ None) where
+  module _ (none : mine p m ≡ None)
+      (apart : (s : Session) → session p m.lsid ≡ Some s → same_tag s.tag m.tag ≡ false) where
+    begins_for : nat_eq m.boot 0 ≡ true → Q (rules.begins p last wall m)
+    begins_for first = performed_for None none (inl (same_boot m.boot 0 first, apart))
+
     beside_for : (s : Session) (st : SessionState) → session p m.lsid ≡ Some s → s.state ≡ st
-        → Q (rules.beside_older p last wall m s.tag st)
-    beside_for s state.Live is st = performed_for None none
-    beside_for s (state.Prepared time coordinator) is st =
+        → nat_eq m.boot 0 ≡ true → Q (rules.beside_older p last wall m s.tag st)
+    beside_for s state.Live is st first = begins_for first
+    beside_for s (state.Prepared time coordinator) is st first =
         says (cause.PreparedStands s.tag) (s, is, refl, (time, coordinator, st))
-    beside_for s (state.Committed time) is st = performed_for None none
-    beside_for s state.Released is st = performed_for None none
-    beside_for s (state.Aborted why read_at) is st = performed_for None none
+    beside_for s (state.Committed time) is st first = begins_for first
+    beside_for s state.Released is st first = begins_for first
+    beside_for s (state.Aborted why read_at) is st first = begins_for first
 
     other_boot : IsNewer p m → nat_eq m.boot 0 ≡ false → B (cause.Unavailable m.boot p.boot)
     other_boot newer h = (refl, refl, inl (grind (arith, h), newer))
@@ -254,7 +261,7 @@ module _ (p : Part) (opens : Opens) (last wall : ℕ) (m : Statement)
     first_for : IsNewer p m → (s : Session) → session p m.lsid ≡ Some s
         → Q (rules.first_statement p last wall m (Some s))
     first_for newer s is =
-        either_is (nat_eq m.boot 0) Q _ _ (λ first. beside_for s s.state is refl)
+        either_is (nat_eq m.boot 0) Q _ _ (λ first. beside_for s s.state is refl first)
         (λ other. says (cause.Unavailable m.boot p.boot) (other_boot newer other))
 
     none_for : IsNewer p m → session p m.lsid ≡ None
@@ -262,7 +269,7 @@ module _ (p : Part) (opens : Opens) (last wall : ℕ) (m : Statement)
     none_for newer is =
         either_is (nat_eq m.boot 0) Q _ _
         (λ first. either_is (is_full p.sessions) Q _ _
-        (λ full. says cause.TooManySessions (full, is)) (λ room. performed_for None none))
+        (λ full. says cause.TooManySessions (full, is)) (λ room. begins_for first))
         (λ other. says (cause.Unavailable m.boot p.boot) (other_boot newer other))
 
   mine_apart : (o : Option Open) (tag : Tag) (b : Bool) → same_tag tag m.tag ≡ b → b ≡ false
@@ -292,7 +299,13 @@ module _ (p : Part) (opens : Opens) (last wall : ℕ) (m : Statement)
         either_is (nat_eq m.k o.k) Q _ _ (λ again. (tt, same_ends B p m.lsid m.tag))
         (λ apart. either_is (nat_lt m.k o.k) Q _ _ (λ late. (tt, same_ends B p m.lsid m.tag))
         (λ after. either_is (nat_eq m.boot p.boot) Q _ _
-        (λ now. performed_for (Some o) (ap (mine_of m.tag) live ∙ mine_same o tag))
+        (λ now. performed_for (Some o) (ap (mine_of m.tag) live ∙ mine_same o tag) (inr (
+          o,
+          live,
+          tag,
+          grind (arith, apart, after),
+          same_boot m.boot p.boot now,
+        )))
         (λ other. let b : B (cause.Unavailable m.boot p.boot) = (
           refl,
           refl,
@@ -363,9 +376,17 @@ module _ (p : Part) (opens : Opens) (last wall : ℕ) (m : Statement)
       newer_case false below false above true t h = cc
       newer_case false below false above false t h = cc
 
+  apart_than : (s : Session) → session p m.lsid ≡ Some s → same_tag s.tag m.tag ≡ false
+      → (t : Session) → session p m.lsid ≡ Some t → same_tag t.tag m.tag ≡ false
+  apart_than s is apart t found =
+      let both : Some t ≡ Some s = sym found ∙ is in
+      let one : t ≡ s = cc in
+      subst (λ (x : Session). same_tag x.tag m.tag ≡ false) (sym one) apart
+
   found_for : (o : Option Session) → session p m.lsid ≡ o → Q (rules.by_session p last wall m o)
   found_for None is =
       none_for (ap (mine_of m.tag) (none_open is))
+      (λ s there. let wrong : None ≡ Some s = sym is ∙ there in cc)
       (λ s there. let wrong : None ≡ Some s = sym is ∙ there in cc) is
   found_for (Some s) is =
       either_is (is_replaced s m.number m.tag) Q _ _
@@ -373,7 +394,8 @@ module _ (p : Part) (opens : Opens) (last wall : ℕ) (m : Statement)
       (λ free. either_is (same_tag s.tag m.tag) Q _ _
       (λ same. later_for s is (tag_same s.tag m.tag same) s.state refl)
       (λ apart. first_for (mine_apart (open_of p m.lsid) s.tag (same_tag s.tag m.tag) refl apart
-      (open_tag p opens m.lsid at_session s is)) (newer_than s is free apart) s is))
+      (open_tag p opens m.lsid at_session s is)) (apart_than s is apart) (newer_than s is free apart)
+      s is))
 
   pub statement_for : Q (statement p last wall m)
   unfolding statement

@@ -1,6 +1,6 @@
 -- What a making comes of, on one shard: the want of memory, the wall, a disk that failed, or the
 -- rule of the message that was delivered, which names the transaction.
-use Rattle.std.proofs.Common.{◌≡◌, ◌⊎◌, inl, inr, ℕ, zero, suc, ℤ, true, false}
+use Rattle.std.proofs.Common.{◌≡◌, ◌⊎◌, inl, inr, ◌++◌, ℕ, zero, suc, ℤ, true, false}
 use Rattle.std.proofs.Common.{List, [], ◌∷◌, All, Contains, Option, Some, None, IfSome, arith, refl}
 use Rattle.std.proofs.Common.{ap, subst, ◌∙◌, sym, slice_get}
 use Rattle.std.proofs.lemmas.List.Elements.{All-contains, All-nil}
@@ -86,7 +86,7 @@ stands_alone chunks nodes h =
     subst (λ (x : NodeState). DiskStands nodes x.records) (sym one.1)
     (new_disk nodes 0 h.faults h.node h.starts))
 
-comes_alone : (nodes : Nodes) (shard : ℕ) (w : Happening)
+pub comes_alone : (nodes : Nodes) (shard : ℕ) (w : Happening)
     → All (λ (e : Envelope). IsAlone e.msg) nodes.sent → MayCome nodes.sent (Shard shard) w
     → EventAlone w
 comes_alone nodes shard (what.Deliver e) all h =
@@ -99,13 +99,14 @@ comes_alone nodes shard what.Moment all h = tt
 -- The step of a making.
 pub record StepOf (past : Past) (start : Nodes) (shard : ℕ) (m : Making) (nodes : Nodes)
     (next : Nodes) : Type 0 where
+  pub faults : ℕ
   pub before_run : List Ran
   pub before_trace : List Nodes
   pub comes : IsTrace start before_run before_trace nodes
   pub after_run : List Ran
   pub after_trace : List Nodes
   pub goes : IsTrace next after_run after_trace past.now
-  pub faults : ℕ
+  pub whole : past.run ≡ before_run ++ Step (Shard shard) m.event m.answer faults ∷ after_run
   pub steps : ShardSteps nodes shard m.event m.answer faults next
   pub before : steps.before ≡ m.before
   pub after : steps.after ≡ m.after
@@ -128,6 +129,7 @@ step_of chunks start run trace now is within shard tag why m made =
       after_run = p.after_run;
       after_trace = p.after_trace;
       goes = subst (λ (x : Nodes). IsTrace x p.after_run p.after_trace now) next p.goes;
+      whole = p.whole;
       faults = made.faults;
       steps = s;
       before = one_some s.before m.before (sym s.there ∙ made.before);
@@ -144,7 +146,7 @@ takes_of past start shard m nodes next s =
     (subst (λ (x : NodeState). ShardTakes s.steps.before m.event m.answer x) s.after s.steps.takes)
 
 -- nothing is given out where an append failed
-no_letters : (a : NodeAnswer) → a ≡ DiskFault → (e : Envelope) → Contains (given_out a) e → ⊥
+pub no_letters : (a : NodeAnswer) → a ≡ DiskFault → (e : Envelope) → Contains (given_out a) e → ⊥
 no_letters a is e h =
     none (subst (λ (x : NodeAnswer). Contains (given_out x) e) is h)
   where
@@ -363,7 +365,7 @@ module _ (chunks : Map) (start : Nodes) (run : List Ran) (trace : List Nodes) (n
       subst (λ (x : NodeState). x.core.stopped ≡ None
       → HasRun made.nodes.sent x.core x.records x.hand) (sym at_first.1) one.right.runs runs
 
-  event_alone : EventAlone m.event.what
+  pub event_alone : EventAlone m.event.what
   event_alone = comes_alone made.nodes shard m.event.what one.alone step.steps.comes
 
   by_stopped : (o : Option ℕ) → m.before.core.stopped ≡ o → IsNew m why → Origin m why

@@ -1,8 +1,10 @@
 -- Why a shard's step tells a cause, or ends a transaction with it.
-use Rattle.std.proofs.Common.{◌≡◌, ◌⊎◌, inl, inr, ◌<◌, ◌-◌, ℕ, ℤ, Bool, List, []}
+use Rattle.std.proofs.Common.{◌≡◌, ◌⊎◌, inl, inr, ◌<◌, ◌≤◌, ◌-◌, ℕ, ℤ, Bool, true, false, List, []}
 use Rattle.std.proofs.Common.{◌∷◌, All, Option, Some, None, IfSome, option_map, option_and_then}
 use Rattle.std.proofs.Common.{unwrap_or, is_some, Result, Ok, Err, refl, ap, subst, ◌∙◌, sym}
+use Rattle.std.proofs.Common.{arith, nat_eq, if◌then◌else◌}
 use Rattle.std.proofs.lemmas.List.Elements.{All-nil, All-cons, All-map, All-weaker}
+use Rattle.txn_types.specs.Clock.{ticked, next_time, last_time}
 use Rattle.txn_types.specs.Letters.{Letter, sent_by, given_out}
 use Rattle.txn_types.specs.declared.cause.Cause.{Cause}
 use Rattle.txn_types.specs.declared.cause.Cause.TheVariants as cause
@@ -51,6 +53,7 @@ use Rattle.shard_core.specs.Wanting.{wanting, Wanting, told_if, told_memory, may
 use Rattle.shard_core.specs.Core.{Room, Ample, Scarce, Short, CoreStep, core_step, step_if, stepped}
 use Rattle.shard_core.specs.Core.{stays, entered, happened, scarce, running_step, stopped_step}
 use Rattle.shard_core.specs.Core.{answer_stopped, says_stopped, answer_of}
+use Rattle.shard_core.proofs.Keeping.{ruled_keeps}
 use Rattle.cluster_core.specs.Causes.{Tells}
 use Rattle.one_shard_laws.specs.Alone.{IsAlone, EventAlone}
 use Rattle.stood_laws.specs.Because.{Aims, MsgBecause, IsTooOld, ToldAt, EndsAt}
@@ -275,8 +278,19 @@ ruled_for s opens none sessions from msg.Nudge alone = resend_for s msg.Nudge no
 abbrev Given : ShardState → NodeEvent → Envelope → Type 0
 Given s e x = (tag : Tag) (why : Cause) → Tells tag why x.msg → ToldAt s e tag why
 
+-- a message comes
+abbrev pub Delivers : Happening → Type 0
+Delivers (what.Deliver d) = Unit {0}
+Delivers other = ⊥
+
+-- the clock is at or past where the message took it, or nothing is told
+abbrev pub Reaches : ShardState → NodeEvent → CoreStep → Type 0
+Reaches s e o = (d : Envelope) → e.what ≡ what.Deliver d
+    → ((met (entered s e) d).clock.last ≤ o.core.clock.last) ⊎ (given_out o.answer ≡ [])
+
 pub record StepFor (s : ShardState) (e : NodeEvent) (o : CoreStep) : Type 0 where
   pub told : All (Given s e) (given_out o.answer)
+  pub clock : Reaches s e o
   pub ends : (lsid : Lsid) (new : Session) (why : Cause) (read_at : ℕ)
       → session o.core.part lsid ≡ Some new → new.state ≡ state.Aborted why read_at
       → (session s.part lsid ≡ Some new) ⊎ EndsAt s e lsid new.tag why
@@ -291,14 +305,31 @@ given Q s out None h =
     (λ (l : Letter). Q (sent_by (Shard s.part.shard) s.clock.last l).msg) (λ l k. k) out h)
 given Q s out (Some held) h = nothing (λ (e : Envelope). Q e.msg)
 
-rests : (s : ShardState) (e : NodeEvent) (a : NodeAnswer) → All (Given s e) (given_out a)
-    → StepFor s e (stays s a)
-rests s e a told =
-    record { told = told; ends = λ lsid new why read_at there is. inl there }
-
 silent : (s : ShardState) (e : NodeEvent) (a : NodeAnswer) → given_out a ≡ []
     → StepFor s e (stays s a)
-silent s e a none = rests s e a (subst (All (Given s e)) (sym none) (nothing (Given s e)))
+silent s e a none =
+    record {
+      told = subst (All (Given s e)) (sym none) (nothing (Given s e));
+      clock = λ d is. inr none;
+      ends = λ lsid new why read_at there is. inl there;
+    }
+
+-- a rule leaves the clock where it was, or ticks
+ticked_by : (test : Bool) (last next now : ℕ) → last < next
+    → (if test then None else Some next) ≡ Some now → last ≤ now
+ticked_by true last next now up h = let wrong : None ≡ Some now = h in cc
+ticked_by false last next now up h = let same : next ≡ now = cc in omega (arith, up, same)
+
+rule_rises : (s : ShardState) (from : NodeId) (m : Msg)
+    → s.clock.last ≤ (ruled s from m).core.clock.last
+rule_rises s from m = last_case (ruled_keeps s from m).last
+  where
+    last_case : ((ruled s from m).core.clock.last ≡ s.clock.last)
+        ⊎ (ticked s.clock.last s.wall ≡ Some (ruled s from m).core.clock.last)
+        → s.clock.last ≤ (ruled s from m).core.clock.last
+    last_case (inl same) = omega (arith, same)
+    last_case (inr tick) = ticked_by (nat_eq s.clock.last last_time) s.clock.last
+        (next_time s.clock.last s.wall) (ruled s from m).core.clock.last (omega arith) tick
 
 -- out of memory is told as the cause
 abbrev TellsMemory : Wanting → Type 0
@@ -337,6 +368,9 @@ module _ (s : ShardState) (e : NodeEvent) (opens : Opens) (entries : List Entry)
     (none : s.coord ≡ []) where
   abbrev t : ShardState
   t = entered s e
+
+  one_event : (d x : Envelope) → what.Deliver d ≡ what.Deliver x → d ≡ x
+  one_event d x h = cc
 
   same_why : (a b : Cause) (m n : ℕ) → state.Aborted a m ≡ state.Aborted b n → b ≡ a
   same_why a b m n h = cc
@@ -382,9 +416,12 @@ module _ (s : ShardState) (e : NodeEvent) (opens : Opens) (entries : List Entry)
 
   -- from a rule of what is delivered
   delivered_for : (d : Envelope) → e.what ≡ what.Deliver d → (ceiling : Option ℕ) (r : Ruled)
-      → MsgFor (met t d) d.msg r → StepFor s e (stepped ceiling r)
-  delivered_for d is ceiling r h =
+      → (met t d).clock.last ≤ r.core.clock.last → MsgFor (met t d) d.msg r
+      → StepFor s e (stepped ceiling r)
+  delivered_for d is ceiling r up h =
       record {
+        clock = λ x there. inl (subst (λ (y : Envelope). (met t y).clock.last ≤ r.core.clock.last)
+            (one_event d x (sym is ∙ there)) up);
         told = given (λ (m : Msg). (tag : Tag) (why : Cause) → Tells tag why m
             → ToldAt s e tag why) r.core r.out r.held
             (All-weaker (WhyMsg (met t d) d.msg) (λ (l : Letter). (tag : Tag) (why : Cause)
@@ -421,9 +458,11 @@ module _ (s : ShardState) (e : NodeEvent) (opens : Opens) (entries : List Entry)
       end_case lsid new why read_at at (inr x) = inr (inr (inr (d, is, x.0, x.1)))
 
   -- nothing is delivered
-  else_for : (r : Ruled) → r.core ≡ t → r.out ≡ [] → StepFor s e (stepped None r)
-  else_for r core out =
+  else_for : (r : Ruled) → r.core ≡ t → r.out ≡ [] → (w : Happening) → e.what ≡ w
+      → (Delivers w → ⊥) → StepFor s e (stepped None r)
+  else_for r core out w is never =
       record {
+        clock = λ d there. absurd (never (subst Delivers (sym there ∙ is) tt));
         told = given (λ (m : Msg). (tag : Tag) (why : Cause) → Tells tag why m
             → ToldAt s e tag why) r.core r.out r.held
             (subst (All (λ (l : Letter). (tag : Tag) (why : Cause) → Tells tag why l.1
@@ -447,17 +486,22 @@ module _ (s : ShardState) (e : NodeEvent) (opens : Opens) (entries : List Entry)
   happens_for (what.Deliver d) is alone =
       let h = expire_holds s.part opens s.clock.last entries served part t.wall in
       delivered_for d is (ceiling_of t d) (ruled (met t d) d.from d.msg)
+      (rule_rises (met t d) d.from d.msg)
       (ruled_for (met t d) h.0 none h.1.sessions d.from d.msg alone)
-  happens_for (what.Client conn frame) is alone = else_for (quiet t) refl refl
-  happens_for (what.Gone conn) is alone = else_for (quiet t) refl refl
-  happens_for what.Resend is alone = else_for (on_resend t) refl no_resends
-  happens_for what.Moment is alone = else_for (quiet t) refl refl
+  happens_for (what.Client conn frame) is alone =
+      else_for (quiet t) refl refl (what.Client conn frame) is (λ x. x)
+  happens_for (what.Gone conn) is alone = else_for (quiet t) refl refl (what.Gone conn) is (λ x. x)
+  happens_for what.Resend is alone =
+      else_for (on_resend t) refl no_resends what.Resend is (λ x. x)
+  happens_for what.Moment is alone = else_for (quiet t) refl refl what.Moment is (λ x. x)
 
   -- want of memory
   told_memory_for : (d : Envelope) → e.what ≡ what.Deliver d → (w : Wanting) → TellsMemory w
       → StepFor s e (stepped (ceiling_of t d) (told_memory (met t d) w))
   told_memory_for d is w h =
       record {
+        clock = λ x there. inl (subst (λ (y : Envelope). (met t y).clock.last
+            ≤ (met t d).clock.last) (one_event d x (sym is ∙ there)) (omega arith));
         told = given (λ (m : Msg). (tag : Tag) (why : Cause) → Tells tag why m
             → ToldAt s e tag why) (told_memory (met t d) w).core (w.letter ∷ []) None
             (one (λ (l : Letter). (tag : Tag) (why : Cause) → Tells tag why l.1

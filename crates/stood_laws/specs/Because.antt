@@ -1,8 +1,9 @@
 -- Why a shard's rules refuse: what stands at its part where a rule makes a cause.
-use Rattle.std.specs.Prelude.{◌≡◌, ◌≢◌, ◌⊎◌, ◌<◌, ◌<ℤ◌, ◌-◌, ℕ, List, true}
+use Rattle.std.specs.Prelude.{◌≡◌, ◌≢◌, ◌⊎◌, ◌<◌, ◌<ℤ◌, ◌-◌, ℕ, List, true, false}
 use Rattle.std.specs.Prelude.{Option, Some, None, Ok, Err, unwrap_or, option_map}
 use Rattle.txn_types.specs.Clock.{last_time}
 use Rattle.txn_types.specs.Limits.{most_written}
+use Rattle.txn_types.specs.Order.{same_tag}
 use Rattle.txn_types.specs.declared.cause.Cause.{Cause}
 use Rattle.txn_types.specs.declared.cause.Cause.TheVariants as cause
 use Rattle.txn_types.specs.declared.event.Happening.TheVariants as what
@@ -56,6 +57,19 @@ IsAfter p m = (o : Open) × (open_of p m.lsid ≡ Some o) × (o.tag ≡ m.tag) �
 abbrev pub NamesOther : Part → Statement → Type 0
 NamesOther p m = ((0 < m.boot) × IsNewer p m) ⊎ ((m.boot ≢ p.boot) × IsAfter p m)
 
+-- a statement that is served anew: the first of a transaction that its session hasn't, or one that
+-- comes after the newest of its live transaction, in its boot
+abbrev pub BeginsHere : Part → Statement → Type 0
+BeginsHere p m = (m.boot ≡ 0)
+    × ((s : Session) → session p m.lsid ≡ Some s → same_tag s.tag m.tag ≡ false)
+
+abbrev pub GoesOnHere : Part → Statement → Type 0
+GoesOnHere p m = (o : Open) × (open_of p m.lsid ≡ Some o) × (o.tag ≡ m.tag) × (o.k < m.k)
+    × (m.boot ≡ p.boot)
+
+abbrev pub IsAnewHere : Part → Statement → Type 0
+IsAnewHere p m = BeginsHere p m ⊎ GoesOnHere p m
+
 -- for a statement that comes to a shard's part, at the clock's last time
 abbrev pub Because : Part → ℕ → Statement → Cause → Type 0
 Because p last m (cause.Replaced number other) =
@@ -69,6 +83,7 @@ Because p last m (cause.PreparedStands other) =
 Because p last m cause.TooManySessions = (is_full p.sessions ≡ true) × (session p m.lsid ≡ None)
 Because p last m (cause.Statement err) =
     (rows : List Row) × Sees p (moment_of last m (mine p m)) m rows × (eval m.op rows ≡ Err err)
+    × IsAnewHere p m
 Because p last m (cause.WriteConflict id by) =
     (reply : OpReply) × (writes : List Write)
     × DoneOver p (moment_of last m (mine p m)) m reply writes
@@ -77,6 +92,7 @@ Because p last m (cause.Volume bytes) =
     (reply : OpReply) × (writes : List Write)
     × DoneOver p (moment_of last m (mine p m)) m reply writes
     × (bytes ≡ volume (writes_with (mine p m) writes)) × (most_written < bytes)
+    × IsAnewHere p m
 Because p last m other = ⊥
 
 -- for a commit

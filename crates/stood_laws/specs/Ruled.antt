@@ -17,11 +17,8 @@ is_ruled (cause.Volume bytes) = false
 is_ruled (cause.ClientAbort why) = false
 is_ruled other = true
 
--- those of which it is shown what stands: not yet of a statement's own meaning, nor of the bytes
--- that it writes; and a client's is shown elsewhere
+-- those of which it is shown here what stands; a client's is shown elsewhere
 abbrev pub is_shown : Cause → Bool
-is_shown (cause.Statement err) = false
-is_shown (cause.Volume bytes) = false
 is_shown (cause.ClientAbort why) = false
 is_shown other = true
 

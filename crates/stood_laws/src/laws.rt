@@ -5,6 +5,7 @@ ghost use Rattle.txn_types.specs.declared.cause.Cause.TheVariants as cause;
 ghost use Rattle.txn_types.specs.declared.cause.By.TheVariants as by;
 ghost use Rattle.txn_types.specs.declared.id.Id.{Id};
 ghost use Rattle.txn_types.specs.declared.names.Tag.{Tag};
+ghost use Rattle.txn_types.specs.declared.operation.OpErr.{OpErr};
 ghost use Rattle.chunk_map.specs.Map.{Map, IsMap};
 ghost use Rattle.txn_model.specs.declared.ran.Ran.{Ran};
 ghost use Rattle.cluster_core.specs.Causes.{Making, IsMade, Stood};
@@ -49,8 +50,31 @@ pub fn a_conflict_with_a_commit_stood()
         → Stood (past_of chunks start run trace now) m (cause.WriteConflict id (by.At time)) }
 {}
 
+/// On one shard, where a statement is refused by its own meaning, this meaning refuses it over what
+/// its moment sees of the list of commits, under what the answered statements of its transaction
+/// wrote before it.
+pub fn a_refused_statement_meant_it()
+    ensures { (chunks : Map) (start : Nodes) (run : List Ran) (trace : List Nodes) (now : Nodes)
+        → IsMap chunks → StartsAlone chunks start → IsTrace start run trace now
+        → (within shard : ℕ) (tag : Tag) (err : OpErr) (m : Making)
+        → IsMade (past_of chunks start run trace now) within shard tag (cause.Statement err) m
+        → IsNew m (cause.Statement err)
+        → Stood (past_of chunks start run trace now) m (cause.Statement err) }
+{}
+
+/// On one shard, where a transaction has written too much, what it has live there has this many
+/// bytes with what its statement writes over those rows, and this is above what it may have.
+pub fn what_is_too_large_was_written()
+    ensures { (chunks : Map) (start : Nodes) (run : List Ran) (trace : List Nodes) (now : Nodes)
+        → IsMap chunks → StartsAlone chunks start → IsTrace start run trace now
+        → (within shard : ℕ) (tag : Tag) (bytes : ℕ) (m : Making)
+        → IsMade (past_of chunks start run trace now) within shard tag (cause.Volume bytes) m
+        → IsNew m (cause.Volume bytes)
+        → Stood (past_of chunks start run trace now) m (cause.Volume bytes) }
+{}
+
 /// On one shard, where a cause is made, what it tells stood there: all causes but those of a
-/// client, of a statement's own meaning and of the bytes that it writes.
+/// client.
 pub fn what_is_made_stood()
     ensures { (chunks : Map) (start : Nodes) (run : List Ran) (trace : List Nodes) (now : Nodes)
         → IsMap chunks → StartsAlone chunks start → IsTrace start run trace now
