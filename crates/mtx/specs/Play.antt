@@ -14,10 +14,11 @@ use Rattle.mtx.specs.declared.status.Status.{Status}
 use Rattle.mtx.specs.declared.status.Status.TheVariants as status
 use Rattle.mtx.specs.Statuses.{status_of}
 
--- The lines were played over a cluster, which ended so. After each event what its clients were
--- answered is right, where its disks tell what they hold (`told`). Where nothing outside failed, the
--- lines have no other status over the nodes that started, and no other text. Of lines that are all
--- of clients the status says what they ask.
+-- The lines were played over a cluster, which ended so. Where its disks tell what they hold
+-- (`told`), what its clients were answered is right after each event: on one shard as a whole, on
+-- several as far as it is shown. Where nothing outside failed, the lines have no other status over
+-- the nodes that started, nor over any that start on new disks, and no other text. Of lines that
+-- are all of clients the status says what they ask.
 pub record PlayedOver (told : Type 0) (lines : List (List ℕ)) (held held' : Option (List ℕ))
     (s : Status) : Type 0 where
   pub ending : Ending

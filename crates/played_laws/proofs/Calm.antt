@@ -17,7 +17,8 @@ use Rattle.play_steps.proofs.Keeping.{Grants, AllAre, AskedFor, Goes, IsKept, Is
 use Rattle.play_steps.proofs.Keeping.{answer_on, good_line, next_on}
 use Rattle.play_steps.specs.Steps.{given_of}
 use Rattle.cluster_play.specs.Plays.{CannotBe, Does, PlaysTo, Turn, asked, dump_at, next_at}
-use Rattle.played_laws.specs.Throughout.{AsksNoShard, FitsAt, HaveNoShardRestart, RestartsFit}
+use Rattle.restart_laws.specs.Restarts.{FitsAt, RestartsFit}
+use Rattle.played_laws.specs.Throughout.{AsksNoShard, HaveNoShardRestart}
 
 abbrev IsNoShard : Want → Type 0
 IsNoShard (want.Renew (Shard n)) = ⊥

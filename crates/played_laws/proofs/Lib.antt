@@ -1,7 +1,6 @@
-pub mod Alone
-pub mod Maps
-pub mod Chunks
 pub mod Parts
 pub mod Runs
 pub mod Calm
+pub mod Sound
+pub mod Holding
 pub mod Throughout

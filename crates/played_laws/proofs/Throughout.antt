@@ -1,132 +1,108 @@
--- What was played of a schedule over one shard is right after every event.
-use Rattle.std.proofs.Common.{◌≡◌, ◌⊎◌, inl, inr, ℕ, List, [], ◌∷◌, ◌++◌, Option, sym, subst}
-use Rattle.chunk_map.specs.Map.{Map, IsMap}
+-- What was played of a schedule is right after every event.
+use Rattle.std.proofs.Common.{◌≡◌, inl, inr, ℕ, List, Option, Ok}
+use Rattle.chunk_map.specs.Map.{IsMap}
 use Rattle.cluster_conf.specs.Conf.{Settings}
 use Rattle.txn_model.specs.declared.ran.Ran.{Ran}
 use Rattle.cluster_core.specs.Nodes.{Nodes}
-use Rattle.cluster_core.specs.Trace.{IsFresh}
 use Rattle.play_steps.specs.declared.want.Want.{Want}
 use Rattle.play_steps.specs.declared.want.Want.TheVariants as want
 use Rattle.play_steps.specs.Player.{Player}
 use Rattle.cluster_play.specs.declared.status.Status.{Status}
 use Rattle.cluster_play.specs.declared.status.Status.TheVariants as status
 use Rattle.cluster_play.specs.Ended.{AreStarted, Ended, IsTurnText, Played, PlayedInPart}
-use Rattle.cluster_play.specs.Plays.{IsRun, PlaysTo, ran_of}
-use Rattle.cluster_play.specs.Schedule.{Schedule, player_of}
-use Rattle.right_laws.proofs.Whole.{right_alone}
-use Rattle.played_laws.specs.Throughout.{HaveNoShardRestart, IsRight, IsRightInPart, NextFits}
-use Rattle.played_laws.specs.Throughout.{PlaysBetween}
-use Rattle.played_laws.specs.Throughout.{RestartsFit, RightBehind, RightBy, RightNext}
-use Rattle.played_laws.specs.Throughout.{RightThroughout}
-use Rattle.played_laws.proofs.Alone.{starts_alone}
-use Rattle.played_laws.proofs.Calm.{calm_fits, calm_on, turn_fits}
-use Rattle.played_laws.proofs.Chunks.{fresh_map}
-use Rattle.played_laws.proofs.Maps.{schedule_map}
-use Rattle.played_laws.proofs.Parts.{plays_between, plays_one_more}
-use Rattle.played_laws.proofs.Runs.{front_fits, one_more_fits, plays_run}
+use Rattle.cluster_play.specs.Plays.{PlaysTo}
+use Rattle.cluster_play.specs.Schedule.{Schedule, player_of, schedule_of}
+use Rattle.restart_laws.specs.Restarts.{NextFits, RestartsFit}
+use Rattle.restart_laws.proofs.Confs.{schedule_read}
+use Rattle.played_laws.specs.Throughout.{AndNext, IsRight, IsRightInPart, IsSaid, MayRestart}
+use Rattle.played_laws.specs.Throughout.{RightBehind, RightBy, SoundBehind}
+use Rattle.played_laws.specs.Throughout.{Throughout}
+use Rattle.played_laws.proofs.Holding.{Follows, holds_next, holds_throughout, played_fits}
+use Rattle.played_laws.proofs.Holding.{right_follows, sound_follows, then_fits}
 
-is_run : (told : Type 0) (chunks : Map) (p : Player) (start : Nodes) (items : List (Option Ran))
-    (text : List ℕ) (q : Player) (behind : Nodes) → told → IsFresh chunks start
-    → (h : PlaysTo told chunks p start items text q behind)
-    → RestartsFit told chunks p start items text q behind h → IsRun start items behind
-is_run told chunks p start items text q behind t fresh h fits =
-    plays_run told chunks p start items text q behind t (fresh_map chunks start fresh) h fits
-
--- the items may be any that are played from this start
-right_behind : (told : Type 0) (conf : Settings) (p : Player) (start : Nodes)
-    (items : List (Option Ran)) (text : List ℕ) (q : Player) (behind : Nodes) → told
-    → conf.shards ≡ 1 → IsMap conf.map → AreStarted told conf start
-    → (h : PlaysTo told conf.map p start items text q behind)
-    → RestartsFit told conf.map p start items text q behind h → RightBehind start items behind
-right_behind told conf p start items text q behind t is map started h fits =
-    let run = is_run told conf.map p start items text q behind t started.fresh h fits in
-    record {
-      run = run;
-      right = right_alone conf.map start (ran_of items) run.0 behind map
-          (starts_alone told conf start t is started) run.1;
-    }
-
-right_throughout : (told : Type 0) (conf : Settings) (p : Player) (start : Nodes)
-    (items : List (Option Ran)) (text : List ℕ) (q : Player) (behind : Nodes) → told
-    → conf.shards ≡ 1 → IsMap conf.map → AreStarted told conf start
-    → (h : PlaysTo told conf.map p start items text q behind)
-    → RestartsFit told conf.map p start items text q behind h
-    → RightThroughout told conf.map p start items text q behind
-right_throughout told conf p start items text q behind t is map started h fits first rest parted =
-    subst (λ (xs : List (Option Ran)). (g : PlaysTo told conf.map p start xs text q behind)
-    → RestartsFit told conf.map p start xs text q behind g
-    → (b : PlaysBetween told conf.map p start first rest text q behind)
-    × RightBehind start first b.nodes) (sym parted) (λ g fit.
-    let b = plays_between told conf.map p start first rest text q behind g in (
-      b,
-      right_behind told conf p start first b.front b.player b.nodes t is map started b.before
-          (front_fits told conf.map p start first rest text q behind g fit),
-    )) h fits
-
-right_next : (told : Type 0) (conf : Settings) (p : Player) (start : Nodes)
-    (items : List (Option Ran)) (text : List ℕ) (q : Player) (behind : Nodes) (next : List ℕ)
-    → told → conf.shards ≡ 1 → IsMap conf.map → AreStarted told conf start
-    → (h : PlaysTo told conf.map p start items text q behind)
-    → (is_text : IsTurnText told conf.map q behind next)
-    → RestartsFit told conf.map p start items text q behind h
-    → NextFits told conf.map q behind next is_text
-    → RightNext told conf.map start items q behind next is_text
-right_next told conf p start items text q behind next t is map started h (inl none) fits fit = tt
-right_next told conf p start items text q behind next t is map started h (inr one) fits fit =
-    right_behind told conf p start (items ++ one.0 ∷ []) (text ++ next) one.1 one.2 t is map
-    started (plays_one_more told conf.map p start items text q behind one.0 next one.1 one.2 h
-    one.3) (one_more_fits told conf.map p start items text q behind one.0 next one.1 one.2 h one.3
-    fits fit)
-
--- the restarts of what was played, by either way
-played_fits : (told : Type 0) (schedule : Schedule) (start : Nodes) (items : List (Option Ran))
-    (text : List ℕ) (q : Player) (behind : Nodes)
-    (h : PlaysTo told schedule.conf.map (player_of schedule) start items text q behind)
-    (Fit : Type 0) → (Fit → RestartsFit told schedule.conf.map (player_of schedule) start items text
-    q behind h) → HaveNoShardRestart schedule.lines ⊎ Fit
-    → RestartsFit told schedule.conf.map (player_of schedule) start items text q behind h
-played_fits told schedule start items text q behind h Fit f (inl calm) =
-    calm_fits told schedule.conf.map (player_of schedule) start items text q behind (calm, tt) h
-played_fits told schedule start items text q behind h Fit f (inr fit) = f fit
-
-next_fits : (told : Type 0) (schedule : Schedule) (start : Nodes) (items : List (Option Ran))
-    (text : List ℕ) (q : Player) (behind : Nodes) (next : List ℕ)
-    (h : PlaysTo told schedule.conf.map (player_of schedule) start items text q behind)
-    (is_text : IsTurnText told schedule.conf.map q behind next)
-    (Fit : Type 0) → (Fit → NextFits told schedule.conf.map q behind next is_text)
-    → HaveNoShardRestart schedule.lines ⊎ Fit
-    → NextFits told schedule.conf.map q behind next is_text
-next_fits told schedule start items text q behind next h (inl none) Fit f may = tt
-next_fits told schedule start items text q behind next h (inr one) Fit f (inl calm) =
-    turn_fits told schedule.conf.map q behind one.0 next one.1 one.2
-    (calm_on told schedule.conf.map (player_of schedule) start items text q behind (calm, tt) h)
-    one.3
-next_fits told schedule start items text q behind next h (inr one) Fit f (inr fit) = f fit
+-- what is said of what was played up to some turn
+played_said : (told : Type 0) (lines : List (List ℕ)) (schedule : Schedule) (start : Nodes)
+    (items : List (Option Ran)) (text : List ℕ) (q : Player) (behind : Nodes)
+    → schedule_of lines ≡ Ok schedule → AreStarted told schedule.conf start
+    → (h : PlaysTo told schedule.conf.map (player_of schedule) start items text q behind)
+    → IsSaid told schedule start
+    (RestartsFit told schedule.conf.map (player_of schedule) start items text q behind h)
+    (λ P. Throughout told schedule.conf.map P (player_of schedule) start items text q behind)
+played_said told lines schedule start items text q behind reads started h t =
+    let conf : Settings = schedule.conf in
+    let map : IsMap conf.map = (schedule_read lines schedule reads).map in
+    let Fit : Type 0 =
+    RestartsFit told conf.map (player_of schedule) start items text q behind h in
+    let fits : MayRestart schedule Fit → Fit =
+    played_fits told lines schedule start items text q behind t reads started h Fit (λ fit. fit) in (
+      λ may. holds_throughout told conf (SoundBehind conf.map start) (player_of schedule) start items
+          text q behind t started (sound_follows told conf start t map started) h (fits may),
+      λ one. holds_throughout told conf (RightBehind conf.map start) (player_of schedule) start items
+          text q behind t started (right_follows told conf start t map started one) h
+          (fits (inl one)),
+    )
 
 pub played_right : (told : Type 0) (lines : List (List ℕ)) (last : Want)
     (held held' : Option (List ℕ)) (w : Played told lines last held held')
     → IsRight told lines last held held' w
-played_right told lines last held held' w t is may =
-    right_throughout told w.schedule.conf (player_of w.schedule) w.start w.played.items
-    w.played.plays.front w.played.plays.player w.played.behind t is
-    (schedule_map lines w.schedule w.reads) w.started w.played.plays.turns
-    (played_fits told w.schedule w.start w.played.items w.played.plays.front w.played.plays.player
-    w.played.behind w.played.plays.turns _ (λ fit. fit) may)
+played_right told lines last held held' w =
+    played_said told lines w.schedule w.start w.played.items w.played.plays.front
+    w.played.plays.player w.played.behind w.reads w.started w.played.plays.turns
+
+-- what holds behind each run holds of what was played in part
+part_holds : (told : Type 0) (lines : List (List ℕ)) (schedule : Schedule) (start : Nodes)
+    (items : List (Option Ran)) (text : List ℕ) (q : Player) (behind : Nodes) (next : List ℕ)
+    (P : List (Option Ran) → Nodes → Type 0) → told → schedule_of lines ≡ Ok schedule
+    → AreStarted told schedule.conf start → Follows start P
+    → (h : PlaysTo told schedule.conf.map (player_of schedule) start items text q behind)
+    → (is_text : IsTurnText told schedule.conf.map q behind next)
+    → MayRestart schedule
+    (RestartsFit told schedule.conf.map (player_of schedule) start items text q behind h
+    × NextFits told schedule.conf.map q behind next is_text)
+    → Throughout told schedule.conf.map P (player_of schedule) start items text q behind
+    × AndNext told schedule.conf.map P items q behind next is_text
+part_holds told lines schedule start items text q behind next P t reads started follows h is_text
+    may =
+    let conf : Settings = schedule.conf in
+    let Fits : Type 0 =
+    RestartsFit told conf.map (player_of schedule) start items text q behind h in
+    let Then : Type 0 = NextFits told conf.map q behind next is_text in
+    let fits : Fits = played_fits told lines schedule start items text q behind t reads started h
+    (Fits × Then) (λ fit. fit.0) may in
+    let after : Then = then_fits told lines schedule start items text q behind next t reads started h
+    is_text (Fits × Then) (λ fit. fit.1) may in (
+      holds_throughout told conf P (player_of schedule) start items text q behind t started follows h
+          fits,
+      holds_next told conf P (player_of schedule) start items text q behind next t started follows h
+          is_text fits after,
+    )
+
+part_said : (told : Type 0) (lines : List (List ℕ)) (schedule : Schedule) (start : Nodes)
+    (items : List (Option Ran)) (text : List ℕ) (q : Player) (behind : Nodes) (next : List ℕ)
+    → schedule_of lines ≡ Ok schedule → AreStarted told schedule.conf start
+    → (h : PlaysTo told schedule.conf.map (player_of schedule) start items text q behind)
+    → (is_text : IsTurnText told schedule.conf.map q behind next)
+    → IsSaid told schedule start
+    (RestartsFit told schedule.conf.map (player_of schedule) start items text q behind h
+    × NextFits told schedule.conf.map q behind next is_text)
+    (λ P. Throughout told schedule.conf.map P (player_of schedule) start items text q behind
+    × AndNext told schedule.conf.map P items q behind next is_text)
+part_said told lines schedule start items text q behind next reads started h is_text t =
+    let conf : Settings = schedule.conf in
+    let map : IsMap conf.map = (schedule_read lines schedule reads).map in (
+      λ may. part_holds told lines schedule start items text q behind next
+          (SoundBehind conf.map start) t reads started (sound_follows told conf start t map started) h
+          is_text may,
+      λ one. part_holds told lines schedule start items text q behind next
+          (RightBehind conf.map start) t reads started
+          (right_follows told conf start t map started one) h is_text (inl one),
+    )
 
 pub played_in_part_right : (told : Type 0) (lines : List (List ℕ)) (held held' : Option (List ℕ))
     (w : PlayedInPart told lines held held') → IsRightInPart told lines held held' w
-played_in_part_right told lines held held' w t is may =
-    let map = schedule_map lines w.schedule w.reads in
-    let fits = played_fits told w.schedule w.start w.played.items w.played.text w.played.player
-    w.played.nodes w.played.turns _ (λ fit. fit.0) may in (
-      right_throughout told w.schedule.conf (player_of w.schedule) w.start w.played.items
-          w.played.text w.played.player w.played.nodes t is map w.started w.played.turns fits,
-      right_next told w.schedule.conf (player_of w.schedule) w.start w.played.items w.played.text
-          w.played.player w.played.nodes w.played.next t is map w.started w.played.turns
-          w.played.is_text fits (next_fits told w.schedule w.start w.played.items w.played.text
-          w.played.player w.played.nodes w.played.next w.played.turns w.played.is_text _
-          (λ fit. fit.1) may),
-    )
+played_in_part_right told lines held held' w =
+    part_said told lines w.schedule w.start w.played.items w.played.text w.played.player
+    w.played.nodes w.played.next w.reads w.started w.played.turns w.played.is_text
 
 pub right_by : (told : Type 0) (lines : List (List ℕ)) (held held' : Option (List ℕ))
     (ending : Status) (w : Ended told lines held held' ending)

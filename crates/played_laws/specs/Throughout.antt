@@ -1,14 +1,21 @@
--- That what clients of a cluster of one shard are answered is right after every event of what is
--- played, wherever the playing ended.
-use Rattle.std.specs.Prelude.{◌≡◌, ◌⊎◌, ℕ, List, [], ◌∷◌, ◌++◌, Option, Some, slice_get}
+-- That what clients of a cluster are answered is right after every event of what is played,
+-- wherever the playing ended: on one shard as a whole, on several as far as it is shown.
+use Rattle.std.specs.Prelude.{◌≡◌, ◌⊎◌, ℕ, All, List, [], ◌∷◌, ◌++◌, Option, Some}
 use Rattle.std.proofs.Common.{inl, inr}
 use Rattle.chunk_map.specs.Map.{Map}
-use Rattle.log_laws.specs.Fitting.{AllFit}
-use Rattle.shard_core.specs.NodeStep.{NodeState}
 use Rattle.txn_types.specs.declared.node.NodeId.TheVariants.{Shard}
 use Rattle.txn_model.specs.declared.ran.Ran.{Ran}
-use Rattle.txn_model.specs.declared.ran.Ran.TheVariants.{Swapped}
+use Rattle.cluster_core.specs.Ledger.{answered_in, all_replied}
 use Rattle.cluster_core.specs.Nodes.{Nodes}
+use Rattle.cluster_core.specs.Parts.{BootsKnown}
+use Rattle.cluster_core.specs.Right.{Right, past_of}
+use Rattle.cluster_core.specs.Telling.{ToldRight, told_in}
+use Rattle.address_laws.specs.Addresses.{HasNode}
+use Rattle.world_laws.specs.Joint.{Stands}
+use Rattle.answer_laws.specs.Comes.{IsAnswered}
+use Rattle.answer_laws.specs.Opened.{opened_in}
+use Rattle.lost_laws.specs.Lost.{LostStands}
+use Rattle.making_laws.specs.Made.{AllMade}
 use Rattle.play_script.specs.Lines.{line_of}
 use Rattle.play_script.specs.declared.line.Line.{Line}
 use Rattle.play_script.specs.declared.line.Line.TheVariants as line
@@ -20,7 +27,33 @@ use Rattle.cluster_play.specs.declared.status.Status.TheVariants as status
 use Rattle.cluster_play.specs.Ended.{Ended, IsTurnText, Played, PlayedInPart}
 use Rattle.cluster_play.specs.Plays.{IsRun, PlaysTo, ran_of}
 use Rattle.cluster_play.specs.Schedule.{Schedule, player_of}
-use Rattle.right_laws.specs.Alone.{RightAlone}
+use Rattle.restart_laws.specs.Restarts.{NextFits, RestartsFit}
+
+-- On any number of shards: these items may happen in a cluster, one after the other. Its clocks,
+-- records, tags and boots are as the joint invariant says; a shard that tells of another boot
+-- isn't in that boot; each message that was sent goes to a node that is there; each statement's
+-- answer is what its shards said, and each reply tells that; and each cause that a reply tells was
+-- made by a step of the shard that it names.
+pub record SoundBehind (chunks : Map) (start : Nodes) (items : List (Option Ran))
+    (behind : Nodes) : Type 0 where
+  pub run : IsRun start items behind
+  pub stands : Stands behind
+  pub boots : BootsKnown behind
+  pub lost : LostStands behind
+  pub there : All (λ e. HasNode behind e.to) behind.sent
+  pub answered : All (IsAnswered behind.sent (opened_in start.routers (ran_of items)))
+      (answered_in start.routers (ran_of items))
+  pub told : ToldRight (answered_in start.routers (ran_of items))
+      (all_replied start.routers (ran_of items))
+  pub made : AllMade (past_of chunks start (ran_of items) run.0 behind)
+      (told_in start.routers (ran_of items))
+
+-- On one shard: these items may happen in a cluster, one after the other; and what clients were
+-- answered by then is right against the list of commits as it is then.
+pub record RightBehind (chunks : Map) (start : Nodes) (items : List (Option Ran))
+    (behind : Nodes) : Type 0 where
+  pub run : IsRun start items behind
+  pub right : Right chunks start (ran_of items) behind
 
 -- items that were played, in two parts: what was written by then, and the player and the nodes then
 pub record PlaysBetween (told : Type 0) (chunks : Map) (p : Player) (start : Nodes)
@@ -33,32 +66,24 @@ pub record PlaysBetween (told : Type 0) (chunks : Map) (p : Player) (start : Nod
   pub after : PlaysTo told chunks player nodes rest more q behind
   pub is : text ≡ front ++ more
 
--- these items may happen in a cluster, one after the other; and what clients were answered by then
--- is right against the list of commits as it is then
-pub record RightBehind (start : Nodes) (items : List (Option Ran)) (behind : Nodes) : Type 0 where
-  pub run : IsRun start items behind
-  pub right : RightAlone start (ran_of items) behind
-
--- so it is after each of the items that were played
-abbrev pub RightThroughout : Type 0 → Map → Player → Nodes → List (Option Ran) → List ℕ → Player
-    → Nodes → Type 0
-RightThroughout told chunks p start items text q behind = (first rest : List (Option Ran))
+-- it holds behind each front of the items that were played
+abbrev pub Throughout : Type 0 → Map → (List (Option Ran) → Nodes → Type 0) → Player → Nodes
+    → List (Option Ran) → List ℕ → Player → Nodes → Type 0
+Throughout told chunks P p start items text q behind = (first rest : List (Option Ran))
     → items ≡ first ++ rest
-    → (b : PlaysBetween told chunks p start first rest text q behind)
-    × RightBehind start first b.nodes
+    → (b : PlaysBetween told chunks p start first rest text q behind) × P first b.nodes
 
--- and after the next one, where a front of its text may have been written
-abbrev pub RightNext : (told : Type 0) → (chunks : Map) → (start : Nodes)
+-- and behind the next one, where a front of its text may have been written
+abbrev pub AndNext : (told : Type 0) → (chunks : Map) → (List (Option Ran) → Nodes → Type 0)
     → (items : List (Option Ran)) → (q : Player) → (behind : Nodes) → (text : List ℕ)
     → IsTurnText told chunks q behind text → Type 0
-RightNext told chunks start items q behind text (inl none) = Unit {0}
-RightNext told chunks start items q behind text (inr next) =
-    RightBehind start (items ++ next.0 ∷ []) next.2
+AndNext told chunks P items q behind text (inl none) = Unit {0}
+AndNext told chunks P items q behind text (inr next) = P (items ++ next.0 ∷ []) next.2
 
--- Restarts. What is said holds with restarts of routers, and with those of a shard of whose records
--- it is known that they are read as they were written.
+-- Restarts of shards. On one shard, whose disk tells what it holds, records are always read as they
+-- were written. On several it is said where no line asks that a shard starts again, or where each
+-- record fits its bytes when its shard does.
 
--- no line asks that a shard starts again
 abbrev pub AsksNoShard : Option Line → Type 0
 AsksNoShard (Some (line.Restart (Shard n))) = ⊥
 AsksNoShard other = Unit {0}
@@ -67,49 +92,37 @@ abbrev pub HaveNoShardRestart : List (List ℕ) → Type 0
 HaveNoShardRestart [] = Unit {0}
 HaveNoShardRestart (l ∷ lines) = AsksNoShard (line_of l) × HaveNoShardRestart lines
 
--- where a shard is started again, each record that it has and each in hand fits its bytes
-abbrev pub FitsAt : Nodes → Option Ran → Type 0
-FitsAt nodes (Some (Swapped (Shard n))) = (s : NodeState) → slice_get nodes.shards n ≡ Some s
-    → AllFit s.records × AllFit s.hand
-FitsAt nodes other = Unit {0}
+abbrev pub MayRestart : Schedule → Type 0 → Type 0
+MayRestart schedule Fit =
+    (schedule.conf.shards ≡ 1) ⊎ (HaveNoShardRestart schedule.lines ⊎ Fit)
 
-abbrev pub RestartsFit : (told : Type 0) → (chunks : Map) → (p : Player) → (start : Nodes)
-    → (items : List (Option Ran)) → (text : List ℕ) → (q : Player) → (behind : Nodes)
-    → PlaysTo told chunks p start items text q behind → Type 0
-RestartsFit told chunks p start [] text q behind h = Unit {0}
-RestartsFit told chunks p start (item ∷ items) text q behind h = FitsAt start item
-    × RestartsFit told chunks h.2 h.3 items h.1 q behind h.6
-
-abbrev pub NextFits : (told : Type 0) → (chunks : Map) → (q : Player) → (behind : Nodes)
-    → (text : List ℕ) → IsTurnText told chunks q behind text → Type 0
-NextFits told chunks q behind text (inl none) = Unit {0}
-NextFits told chunks q behind text (inr next) = FitsAt behind next.0
-
--- of which schedules it is said: of those over one shard whose disks tell what they hold
-abbrev pub IsSaid : Type 0 → Schedule → Type 0 → Type 0 → Type 0
-IsSaid told schedule Fit P =
-    told → schedule.conf.shards ≡ 1 → HaveNoShardRestart schedule.lines ⊎ Fit → P
+-- what is said of a schedule whose disks tell what they hold
+abbrev pub IsSaid : Type 0 → Schedule → Nodes → Type 0
+    → ((List (Option Ran) → Nodes → Type 0) → Type 0) → Type 0
+IsSaid told schedule start Fit Holds = told
+    → (MayRestart schedule Fit → Holds (SoundBehind schedule.conf.map start))
+    × (schedule.conf.shards ≡ 1 → Holds (RightBehind schedule.conf.map start))
 
 -- what was played up to where `last` comes next
 abbrev pub IsRight : (told : Type 0) → (lines : List (List ℕ)) → (last : Want)
     → (held held' : Option (List ℕ)) → Played told lines last held held' → Type 0
-IsRight told lines last held held' w = IsSaid told w.schedule
+IsRight told lines last held held' w = IsSaid told w.schedule w.start
     (RestartsFit told w.schedule.conf.map (player_of w.schedule) w.start w.played.items
     w.played.plays.front w.played.plays.player w.played.behind w.played.plays.turns)
-    (RightThroughout told w.schedule.conf.map (player_of w.schedule) w.start w.played.items
+    (λ P. Throughout told w.schedule.conf.map P (player_of w.schedule) w.start w.played.items
     w.played.plays.front w.played.plays.player w.played.behind)
 
 -- what was played where the playing was cut short
 abbrev pub IsRightInPart : (told : Type 0) → (lines : List (List ℕ)) → (held held' : Option (List ℕ))
     → PlayedInPart told lines held held' → Type 0
-IsRightInPart told lines held held' w = IsSaid told w.schedule
+IsRightInPart told lines held held' w = IsSaid told w.schedule w.start
     (RestartsFit told w.schedule.conf.map (player_of w.schedule) w.start w.played.items
     w.played.text w.played.player w.played.nodes w.played.turns
     × NextFits told w.schedule.conf.map w.played.player w.played.nodes w.played.next
     w.played.is_text)
-    (RightThroughout told w.schedule.conf.map (player_of w.schedule) w.start w.played.items
+    (λ P. Throughout told w.schedule.conf.map P (player_of w.schedule) w.start w.played.items
     w.played.text w.played.player w.played.nodes
-    × RightNext told w.schedule.conf.map w.start w.played.items w.played.player w.played.nodes
+    × AndNext told w.schedule.conf.map P w.played.items w.played.player w.played.nodes
     w.played.next w.played.is_text)
 
 -- By how the playing ended: at the schedule's end, at a line that is bad, at too much, at a node

@@ -1,4 +1,4 @@
-//! What a schedule over one shard tells its clients is right.
+//! What a schedule tells its clients is right.
 #![tactic(auto)]
 
 pub mod laws;

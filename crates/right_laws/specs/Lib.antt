@@ -1,1 +1,4 @@
-pub mod Alone
+pub mod Said
+pub mod Grounds
+pub mod Boots
+pub mod Knowing
