@@ -1,6 +1,6 @@
 # What a new user and the gate call. `rt` is the command of the Rattle kit.
 
-.PHONY: demo first-insert play test build bench bench-codecs bench-growth
+.PHONY: demo first-insert play test build bench bench-codecs bench-durable bench-growth
 
 SHELL := bash
 .SHELLFLAGS := -o pipefail -c
@@ -39,3 +39,8 @@ bench-growth:
 bench-codecs:
 	cd crates/codec_cases && rt run > /dev/null
 	bench/codecs
+
+# How many inserts a second are kept in files for good, as a share of what the disk does (docs/BENCH.md). No part of the gate.
+bench-durable:
+	cd crates/mtx_durable && folder=$$(mktemp -d) && rt run -- $$folder < stdin > /dev/null && rm -r $$folder
+	bench/durable

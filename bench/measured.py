@@ -13,15 +13,16 @@ TOP = pathlib.Path(__file__).resolve().parent.parent
 PROGRAM = TOP / "crates" / "mtx" / "out" / "mtx"
 
 
-def load_hex():
-    loader = importlib.machinery.SourceFileLoader("mtx_hex", str(TOP / "tools" / "mtx-hex"))
-    module = importlib.util.module_from_spec(importlib.util.spec_from_loader("mtx_hex", loader))
+def load_tool(name):
+    """A script of tools/, as a module."""
+    loader = importlib.machinery.SourceFileLoader(name.replace("-", "_"), str(TOP / "tools" / name))
+    module = importlib.util.module_from_spec(importlib.util.spec_from_loader(loader.name, loader))
     loader.exec_module(module)
     return module
 
 
 sys.dont_write_bytecode = True
-HEX = load_hex()
+HEX = load_tool("mtx-hex")
 
 
 def client(command, connection=1, request=1):
@@ -39,13 +40,13 @@ class Taken:
         return [line for line in self.lines if line.startswith("reply ")]
 
 
-def played(program, lines, cwd=None, environment=None):
-    """Plays the lines once. It ends where the program doesn't end with status 0, or a command is refused."""
+def played(call, lines):
+    """Plays the lines once, by a program with its words. It ends where the program doesn't end with status 0, or a command is refused."""
     with tempfile.TemporaryFile("w+") as made, tempfile.TemporaryFile("w+") as out:
         made.writelines(lines)
         made.seek(0)
         start = time.monotonic()
-        child = subprocess.Popen([program, "play"], stdin=made, stdout=out, cwd=cwd, env=environment)
+        child = subprocess.Popen(call, stdin=made, stdout=out)
         _, status, used = os.wait4(child.pid, 0)
         child.returncode = os.waitstatus_to_exitcode(status)
         clock = time.monotonic() - start
@@ -63,7 +64,7 @@ def least(program, lines, runs, wanted):
     """The run that took the processor least; each has to give that many replies."""
     found = []
     for _ in range(runs):
-        taken = played(program, lines)
+        taken = played([program, "play"], lines)
         if len(taken.replies()) != wanted:
             sys.exit(f"{wanted} replies are wanted, {len(taken.replies())} came")
         taken.lines = []
