@@ -1,101 +1,105 @@
-use crate::found::Found;
-use crate::standing::Standing;
+use crate::unread::Unread;
 use std::alloc::{AllocError, Global};
 
-/// A file of cases that is run: how many there were, the number of the line, what stands, and what
-/// was found last.
+/// The lines of a file of cases, how many of them were taken, how many cases there were among
+/// them, and what is to be said of those that go another way.
 ///
 /// A line is empty, a comment, which begins with `#`, something that is done, or `= TEXT`: the next
-/// line of what was found when it was done. Each line that was found has to be named so. What is
-/// done:
+/// line of what was found when it was done. Each line that was found has to be named so. Messages
+/// and records stand as their bytes in hexadecimal digits; the comment `#= ..` above says what they
+/// say. What is done:
 ///
-/// - `disk ROOM` or `disk ROOM BYTES`: a disk with room for so many bytes, new or with these, in
-///   hexadecimal digits.
+/// - `disk ROOM` or `disk ROOM BYTES`: a disk with room for so many bytes, new or with these.
 ///   `room ROOM`: the same disk with other room. `file`: its bytes.
-/// - `record RECORD`: the record is appended to the journal of the disk. `payload BYTES`: these
-///   bytes are.
-/// - `start SHARD`: what stands is stopped, and the node of this shard starts from its disk: `ok`,
-///   `disk fault` or
-///   `bad journal INDEX`. `list SHARD`: a node without a disk starts, without a record.
-/// - `at WALL EVENT`: the node is given this. Found are the records that it journals then, each as
-///   `+ RECORD`, and the
-///   messages that it gives out, or `nothing`; or `blocked ID by TAG since TIME`, `disk fault` or
-///   `stopped`.
+/// - `payload BYTES`: these are appended to the journal of the disk.
+/// - `start SHARD`: the node of this shard starts from the disk: `ok`, `disk fault` or `bad journal
+///   INDEX`. `list SHARD`: a node without a disk starts, without a record.
+/// - `at WALL: EVENT`: the node is given a message, by its bytes, `resend`, `moment`, `client
+///   CONNECTION` or `gone CONNECTION`. `router N BYTES` is a message whose sender is that router.
+///   Found are the records that it journals then, each as `+ BYTES`, and the messages that it gives
+///   out, or `nothing`; or `blocked ID by TRANSACTION since TIME`, `disk fault` or `stopped`.
 /// - `records`, `boot`, `faults`, `resolved`: what the node tells.
-/// - `| EVENT` and `> EVENT` keep events. `stops SHARD` gives those with a stroke to a node on a
-///   new disk, and finds its
-///   records. Then it does so on disks that stop after 0, 1, 2 .. calls, starts each again without
-///   a stop, and gives it
-///   the events kept with `>`: found are where the disk stopped, how many records were journalled
-///   by then, how many
-///   were found, and the answers after it; each once, where it is the same as after one call less.
-///
-/// Events and records are in the words of messages.rt and records.rt. A time is `SECONDS.COUNT`;
-/// after a letter it is a read timestamp, r, or one of a commit or a prepare, a. Other letters are
-/// of a transaction t, a session a or o, its number n, the place of a statement k, a boot b, a
-/// shard s, a coordinator or a cause's number c, a reason w.
+/// - `| at ..` and `> at ..` keep events. `stops SHARD` gives those with a stroke to a node on a new
+///   disk, and finds its records. Then it does so on disks that stop after 0, 1, 2 .. calls, starts
+///   each again without a stop, and gives it the events kept with `>`: found are where the disk
+///   stopped, how many records were journalled by then, how many were found, and the answers after
+///   it; each once, where it is the same as after one call less.
 #[derive(Drop)]
-pub struct Cases {
+pub struct Cases<'a> {
+    pub said: String,
     pub count: u64,
-    line: u64,
-    standing: Standing,
-    found: Found,
+    lines: &'a [&'a str],
+    next: usize,
 }
 
-impl Cases {
-    pub fn new(alloc: Global) -> Cases {
+impl<'a> Cases<'a> {
+    pub fn of(alloc: Global, lines: &'a [&'a str]) -> Cases<'a> {
         Cases {
+            said: String::new(alloc),
             count: 0,
-            line: 0,
-            standing: Standing::new(alloc),
-            found: Found::new(alloc),
+            lines,
+            next: 0,
         }
     }
 
-    /// Says where a line that was found is another one.
-    fn compare(&mut self, wanted: &str, out: &mut String) -> Result<(), AllocError> {
-        self.count = self.count.saturating_add(1);
-        let line = self.line;
-        let found = self.found.next().unwrap_or("no more lines");
+    /// How many lines there are.
+    pub fn len(&self) -> usize {
+        self.lines.len()
+    }
+
+    /// The next line that is no comment; an empty one after the last.
+    pub fn peek(&mut self) -> &'a str {
+        let lines = self.lines;
+        for line in lines.get(self.next..).unwrap_or(&[]) {
+            if !line.is_empty() && !line.starts_with("#") {
+                return *line;
+            }
+            self.next = self.next.saturating_add(1);
+        }
+        ""
+    }
+
+    /// Takes the line that comes next.
+    pub fn pass(&mut self) {
+        self.next = self.next.saturating_add(1);
+    }
+
+    fn compare(&mut self, found: &str, wanted: &str) -> Result<(), AllocError> {
         if found == wanted {
             return Ok(());
         }
-        write!(out, "line {line}: {found}\n    and not {wanted}\n")
+        let line = self.next;
+        write!(self.said, "line {line}: {found}\n    and not {wanted}\n")
     }
 
-    /// Says which lines that were found aren't named.
-    fn finish(&mut self, out: &mut String) -> Result<(), AllocError> {
-        let line = self.line;
-        for _ in 0..self.found.len() {
-            if let Some(found) = self.found.next() {
-                write!(out, "before line {line}: {found}\n    and nothing more\n")?;
+    /// Holds a line that was found against the next, which has to name it.
+    pub fn hold(&mut self, found: &str) -> Result<(), AllocError> {
+        match self.peek().strip_prefix("= ") {
+            Some(wanted) => {
+                self.pass();
+                self.count = self.count.saturating_add(1);
+                self.compare(found, wanted)
             }
+            None => self.compare(found, "no more lines"),
         }
-        Ok(())
     }
 
-    /// Takes one line.
-    fn take(&mut self, alloc: Global, line: &str, out: &mut String) -> Result<(), AllocError> {
-        self.line = self.line.saturating_add(1);
-        if line.is_empty() || line.starts_with("#") {
-            return Ok(());
+    /// Holds the lines that were found when a line was done, or says that it wasn't.
+    pub fn close(
+        &mut self,
+        line: &str,
+        done: Result<(), Unread>,
+        found: &str,
+    ) -> Result<(), AllocError> {
+        match done {
+            Ok(()) => {
+                for text in found.lines() {
+                    self.hold(text)?;
+                }
+                Ok(())
+            }
+            Err(Unread::Word) => self.compare("no line of cases", line),
+            Err(Unread::Memory) => Err(AllocError),
         }
-        if let Some(wanted) = line.strip_prefix("= ") {
-            return self.compare(wanted, out);
-        }
-        self.finish(out)?;
-        self.found = self.standing.answer(alloc, line)?;
-        Ok(())
-    }
-
-    /// Runs the cases of a text, and says which go another way.
-    pub fn run(&mut self, alloc: Global, text: &str) -> Result<String, AllocError> {
-        let mut out = String::new(alloc);
-        for line in text.lines() {
-            self.take(alloc, line, &mut out)?;
-        }
-        self.line = self.line.saturating_add(1);
-        self.finish(&mut out)?;
-        Ok(out)
     }
 }

@@ -1,61 +1,110 @@
-//! A shard's node, on a disk in memory that may stop or with its records in a list.
-use crate::found::Found;
-use crate::messages::event_of;
-use crate::texts::put_time;
-use crate::told::{blocked_text, envelope_text, record_text};
-use crate::words::{Unread, Words};
-use journal_rec::Rec;
+//! A shard's node: what it is given, and what it gives out, messages and records as their bytes.
+use crate::cases::Cases;
+use crate::unread::{Unread, bytes_of, sides};
+use bson_core::Bytes;
+use journal_rec::{Rec, encode};
 use machine::Machine;
 use node_store::ShardNode;
-use outside_core::FuseDisk;
-use record_store::{DiskLog, ListLog, NodeErr, RecordLog};
+use node_wire::{from_frame, to_frame};
+use op_msg::{read_frame, write_frame};
+use record_store::RecordLog;
 use shard_core::Journalled;
 use std::alloc::{AllocError, Global};
-use txn_types::{Envelope, NodeAnswer};
+use txn_types::{Envelope, Happening, Id, NodeAnswer, NodeEvent, NodeId, Tag, Ts};
 
-pub type DiskNode = ShardNode<DiskLog<FuseDisk>>;
-
-pub type ListNode = ShardNode<ListLog>;
-
-/// A node that starts without a record.
-pub fn list_node(alloc: Global, shard: u16) -> Result<ListNode, NodeErr> {
-    match ShardNode::over(alloc, shard, ListLog::of(Vec::new(alloc))) {
-        Ok(node) => Ok(node),
-        Err((error, _)) => Err(error),
+/// The message of these digits.
+fn message(alloc: Global, digits: &str) -> Result<Envelope, Unread> {
+    let bytes = bytes_of(alloc, digits)?;
+    let Ok(frame) = read_frame(alloc, bytes.as_slice()) else {
+        return Err(Unread::Word);
+    };
+    match from_frame(alloc, &frame) {
+        Ok(envelope) => Ok(envelope),
+        Err(_) => Err(Unread::Word),
     }
 }
 
-/// Each record after a sign.
+/// The message of `N DIGITS`, from router N.
+fn message_from(alloc: Global, text: &str) -> Result<Envelope, Unread> {
+    let (number, digits) = sides(text, " ")?;
+    let mut envelope = message(alloc, digits)?;
+    envelope.from = NodeId::Router(number.parse::<u16>()?);
+    Ok(envelope)
+}
+
+fn happening(alloc: Global, text: &str) -> Result<Happening, Unread> {
+    let (word, rest) = text.split_once(" ").unwrap_or((text, ""));
+    match word {
+        "resend" => Ok(Happening::Resend),
+        "moment" => Ok(Happening::Moment),
+        "client" => Ok(Happening::Client {
+            conn: rest.parse::<u32>()?,
+            frame: Bytes::new(Vec::new(alloc)),
+        }),
+        "gone" => Ok(Happening::Gone {
+            conn: rest.parse::<u32>()?,
+        }),
+        "router" => Ok(Happening::Deliver(message_from(alloc, rest)?)),
+        digits => Ok(Happening::Deliver(message(alloc, digits)?)),
+    }
+}
+
+/// The event of `at WALL: EVENT`.
+fn event_of(alloc: Global, line: &str) -> Result<NodeEvent, Unread> {
+    let (front, what) = sides(line, ": ")?;
+    let (_at, wall) = sides(front, " ")?;
+    Ok(NodeEvent {
+        wall: wall.parse::<u32>()?,
+        what: happening(alloc, what)?,
+    })
+}
+
+/// Finds the bytes of each record, behind a sign.
 pub fn put_records(
     alloc: Global,
     sign: &str,
     records: &[Rec],
-    found: &mut Found,
+    found: &mut String,
 ) -> Result<(), AllocError> {
     for rec in records {
-        let mut line = String::from_str(alloc, sign)?;
-        let text = record_text(alloc, rec)?;
-        line.push_str(text.as_str())?;
-        found.push(line)?;
+        let mut bytes = Vec::new(alloc);
+        if encode(alloc, rec, &mut bytes).is_err() {
+            return Err(AllocError);
+        }
+        let digits = hex::encode(alloc, bytes.as_slice())?;
+        write!(found, "{sign}{digits}\n")?;
     }
     Ok(())
 }
 
-fn put_envelopes(
-    alloc: Global,
-    envelopes: &[Envelope],
-    found: &mut Found,
-) -> Result<(), AllocError> {
-    if envelopes.is_empty() {
-        return found.say(alloc, "nothing");
+/// Finds the bytes of a message.
+fn put_message(alloc: Global, envelope: &Envelope, found: &mut String) -> Result<(), AllocError> {
+    let Ok(frame) = to_frame(alloc, envelope) else {
+        return Err(AllocError);
+    };
+    let mut bytes = Vec::new(alloc);
+    if write_frame(alloc, &frame, &mut bytes).is_err() {
+        return Err(AllocError);
     }
-    for envelope in envelopes {
-        found.push(envelope_text(alloc, envelope)?)?;
-    }
-    Ok(())
+    let digits = hex::encode(alloc, bytes.as_slice())?;
+    write!(found, "{digits}\n")
 }
 
-fn put_answer(alloc: Global, answer: &NodeAnswer, found: &mut Found) -> Result<(), AllocError> {
+/// Which document a statement waits for, by whom it is held, and since when.
+fn put_held(found: &mut String, id: &Id, tag: Tag, at: Ts) -> Result<(), AllocError> {
+    let Id::Num(id) = id else {
+        return found.push_str("blocked by another id\n");
+    };
+    let (router, boot, serial) = (tag.router, tag.boot, tag.serial);
+    let (seconds, count) = (at.0 >> 32, at.0 & 0xffff_ffff);
+    write!(
+        found,
+        "blocked {id} by {router}.{boot}.{serial} since {seconds}.{count}\n"
+    )
+}
+
+/// Finds what is given out.
+fn put_answer(alloc: Global, answer: &NodeAnswer, found: &mut String) -> Result<(), AllocError> {
     match answer {
         NodeAnswer::Did {
             out,
@@ -63,26 +112,31 @@ fn put_answer(alloc: Global, answer: &NodeAnswer, found: &mut Found) -> Result<(
             closed,
         } => {
             if !replies.as_slice().is_empty() || closed.is_some() {
-                found.say(alloc, "replies")?;
+                found.push_str("replies\n")?;
             }
-            put_envelopes(alloc, out.as_slice(), found)
+            if out.as_slice().is_empty() {
+                found.push_str("nothing\n")?;
+            }
+            for envelope in out.as_slice() {
+                put_message(alloc, envelope, found)?;
+            }
+            Ok(())
         }
-        NodeAnswer::Blocked { id, tag, ts } => found.push(blocked_text(alloc, id, *tag, *ts)?),
-        NodeAnswer::DiskFault => found.say(alloc, "disk fault"),
-        NodeAnswer::Stopped => found.say(alloc, "stopped"),
+        NodeAnswer::Blocked { id, tag, ts } => put_held(found, id, *tag, *ts),
+        NodeAnswer::DiskFault => found.push_str("disk fault\n"),
+        NodeAnswer::Stopped => found.push_str("stopped\n"),
         NodeAnswer::Memory => Err(AllocError),
     }
 }
 
-/// The node takes a copy of the event. Whether its disk failed.
+/// The node takes a copy of the event of a line. Whether its disk failed.
 pub fn take<L: RecordLog>(
     alloc: Global,
-    shard: u16,
     node: &mut ShardNode<L>,
-    words: &Words,
-    found: &mut Found,
+    line: &str,
+    found: &mut String,
 ) -> Result<bool, Unread> {
-    let event = event_of(alloc, shard, words)?;
+    let event = event_of(alloc, line)?;
     let event = ShardNode::<L>::copy_event(alloc, &event)?;
     let before = node.records().len();
     let answer = node.take(&event);
@@ -92,20 +146,44 @@ pub fn take<L: RecordLog>(
     Ok(matches!(answer, NodeAnswer::DiskFault))
 }
 
-/// What the node tells.
-pub fn look<L: RecordLog>(
+/// Does what a line says of a node: gives it something, or asks it.
+fn step<L: RecordLog>(
     alloc: Global,
-    node: &ShardNode<L>,
-    what: &str,
-    found: &mut Found,
+    node: &mut ShardNode<L>,
+    line: &str,
+    found: &mut String,
 ) -> Result<(), Unread> {
-    let mut line = String::from_str(alloc, what)?;
-    match what {
-        "records" => return Ok(put_records(alloc, "", node.records(), found)?),
-        "boot" => write!(line, " {}", node.shard().boot())?,
-        "faults" => write!(line, " {}", node.faults())?,
-        "resolved" => put_time(&mut line, "", node.resolved())?,
-        _ => return Err(Unread::Word),
+    match line {
+        "records" => put_records(alloc, "", node.records(), found)?,
+        "boot" => write!(found, "boot {}\n", node.shard().boot())?,
+        "faults" => write!(found, "faults {}\n", node.faults())?,
+        "resolved" => {
+            let at = node.resolved();
+            write!(found, "resolved {}.{}\n", at.0 >> 32, at.0 & 0xffff_ffff)?;
+        }
+        _ => {
+            take(alloc, node, line, found)?;
+        }
     }
-    Ok(found.push(line)?)
+    Ok(())
+}
+
+/// A node has started, and does what the next lines say, up to the first that isn't of a node.
+pub fn live<L: RecordLog>(
+    alloc: Global,
+    node: &mut ShardNode<L>,
+    cases: &mut Cases,
+) -> Result<(), AllocError> {
+    cases.hold("ok")?;
+    for _ in 0..cases.len() {
+        let line = cases.peek();
+        if !line.starts_with("at ") && !matches!(line, "records" | "boot" | "faults" | "resolved") {
+            return Ok(());
+        }
+        cases.pass();
+        let mut found = String::new(alloc);
+        let done = step(alloc, node, line, &mut found);
+        cases.close(line, done, found.as_str())?;
+    }
+    Ok(())
 }

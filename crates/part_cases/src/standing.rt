@@ -1,245 +1,190 @@
-//! A shard's part with its clock and wall, and what it is asked in words.
+//! A shard's part, and what it answers in words.
 ghost use Rattle.std.specs.Prelude.{◌≡◌, ◌≤◌, ◌⊎◌};
 ghost use Rattle.txn_types.specs.Clock.{last_time, next_time};
 
-use crate::asked::{Asked, time_of};
-use crate::operations::operation;
-use crate::words::{
-    put_done, put_said, put_session, put_session_refusal, put_tick, put_time, put_told, put_voted,
-};
-use participant::{PartErr, Participant};
-use session_table::Sessions;
+use crate::numbers::Numbers;
+use bson_core::{Text, Value};
+use case_texts::{delete, document, find, where_id};
+use participant::{PartErr, Participant, Said};
+use session_table::{SessionErr, Sessions};
 use std::alloc::{AllocError, Global};
-use txn_types::{Abort, Commit, Decide, Decision, HybridClock, Prepare, Recover, Statement, Ts};
+use txn_types::{
+    Cause, ClockErr, HybridClock, InsertItem, InsertItems, Ns, Op, OpReply, Statement, Ts,
+};
 
 #[derive(Drop)]
 pub struct Standing {
     part: Participant,
     sessions: Sessions,
-    clock: HybridClock,
-    wall: u32,
 }
 
-/// A clock that stands at this time, and may go on to the last time that there is.
-fn clock_at(at: Ts) -> HybridClock
-    ensures { result.ceiling ≡ last_time }
+/// A new clock that may go on to the last time that there is.
+fn free_clock(wall: u32) -> HybridClock
+    ensures { (result.last ≡ last_time) ⊎ (next_time result.last wall ≤ result.ceiling) }
 {
     let mut clock = HybridClock::new();
     clock.raise(Ts(u64::MAX));
-    let _ = clock.advance(at);
     clock
 }
 
-/// Lets the clock go on to the last time that there is.
-fn let_go_on(clock: &mut HybridClock, wall: u32)
-    ensures { (clock.new.last ≡ last_time) ⊎ (next_time clock.new.last wall ≤ clock.new.ceiling) }
-{
-    *clock = clock_at(clock.last);
+/// A hundred letters.
+const HUNDRED: &str =
+    "xxxxxxxxxxxxxxxxxxxxxxxxxxxxxxxxxxxxxxxxxxxxxxxxxxxxxxxxxxxxxxxxxxxxxxxxxxxxxxxxxxxxxxxxxxxxxxxxxxxx";
+
+/// A text of so many letters.
+fn long_text(alloc: Global, length: u32) -> Result<Value, AllocError> {
+    let mut text = String::new(alloc);
+    for _ in 0..length / 100 {
+        text.push_str(HUNDRED)?;
+    }
+    for _ in 0..length % 100 {
+        text.push('x')?;
+    }
+    Ok(Value::Text(Text::new(text)))
+}
+
+/// An insert of so many documents, whose ids follow one another, with a text of so many letters
+/// each.
+fn texts(alloc: Global, ns: Ns, numbers: &mut Numbers) -> Result<Op, AllocError> {
+    let (first, count, length) = (numbers.number(), numbers.number(), numbers.number());
+    let mut docs = InsertItems::new(alloc);
+    for index in 0..count {
+        let id = i32::try_from(first.saturating_add(index)).unwrap_or(0);
+        let doc = document(alloc, id, long_text(alloc, length)?)?;
+        docs.push(InsertItem { index, doc })?;
+    }
+    Ok(Op::Insert { ns, docs })
+}
+
+/// The operation of the words that are left; a find of all, where there is no such operation.
+fn operation(alloc: Global, numbers: &mut Numbers) -> Result<Op, AllocError> {
+    let Ok(ns) = Ns::of(alloc, "d", "c") else {
+        return Err(AllocError);
+    };
+    match numbers.word() {
+        "texts" => texts(alloc, ns, numbers),
+        "delete" => {
+            let id = i32::try_from(numbers.number()).unwrap_or(0);
+            delete(alloc, ns, where_id(alloc, Some(id))?)
+        }
+        _ => Ok(find(ns, where_id(alloc, None)?)),
+    }
+}
+
+fn put_said(out: &mut String, said: &Said) -> Result<(), AllocError> {
+    match said {
+        Said::Did { reply, .. } => match reply {
+            OpReply::Count { n, .. } => write!(out, "counts {n}"),
+            OpReply::Rows { docs, .. } => write!(out, "finds {}", docs.as_slice().len()),
+        },
+        Said::Refused { cause, .. } => match cause {
+            Cause::Volume { bytes } => write!(out, "volume {bytes}"),
+            _ => write!(out, "refused {}", cause.number()),
+        },
+        _ => out.push_str("nothing"),
+    }
+}
+
+fn put_begun(out: &mut String, begun: Result<(), SessionErr>) -> Result<(), AllocError> {
+    match begun {
+        Ok(()) => out.push_str("ok"),
+        Err(SessionErr::TooOld { have, .. }) => write!(out, "too old, it has {have}"),
+        Err(SessionErr::InUse { tag }) => write!(out, "in use by {}", tag.serial),
+        Err(SessionErr::PreparedStands { .. }) => out.push_str("prepared stands"),
+        Err(SessionErr::TooMany) => out.push_str("too many sessions"),
+        Err(SessionErr::Memory) => Err(AllocError),
+    }
+}
+
+fn put_time(out: &mut String, at: Ts) -> Result<(), AllocError> {
+    write!(out, "{}.{}", at.0 >> 32, at.0 & 0xffff_ffff)
+}
+
+/// The time that a clock ticks to, or why it doesn't.
+fn put_tick(out: &mut String, tick: &Result<Ts, ClockErr>) -> Result<(), AllocError> {
+    match tick {
+        Ok(at) => put_time(out, *at),
+        Err(ClockErr::ClockEnd) => out.push_str("clock end"),
+        Err(ClockErr::NeedCeiling { bound }) => {
+            out.push_str("need ceiling ")?;
+            put_time(out, *bound)
+        }
+    }
+}
+
+/// A clock below a ceiling that stands at a time ticks.
+fn tick(numbers: &mut Numbers, out: &mut String) -> Result<(), AllocError> {
+    let (at, wall, ceiling) = (numbers.time(), numbers.number(), numbers.time());
+    let mut clock = HybridClock::new();
+    clock.raise(ceiling);
+    match clock.advance(at) {
+        Ok(()) => put_tick(out, &clock.tick(wall)),
+        Err(_) => out.push_str("above the ceiling"),
+    }
 }
 
 impl Standing {
-    /// A part of shard 0 at this boot, where so many sessions may come.
-    pub fn new(alloc: Global, boot: u32, limit: u32) -> Standing {
+    /// A part and a table of sessions where so many sessions may come.
+    pub fn new(alloc: Global, limit: u32) -> Standing {
         Standing {
-            part: Participant::new(alloc, 0, boot, limit),
+            part: Participant::new(alloc, 0, 1, limit),
             sessions: Sessions::new(alloc, limit),
-            clock: HybridClock::new(),
-            wall: 1,
         }
     }
 
-    /// Sets what a line says; whether it says such a thing.
-    pub fn set(&mut self, alloc: Global, line: &str) -> Result<bool, AllocError> {
-        let words: Vec<&str> = line.split_whitespace().collect(alloc)?;
-        let asked = Asked {
-            words: words.as_slice(),
-        };
-        match asked.word(0) {
-            "new" => {
-                let boot = asked.word(1).parse::<u32>().unwrap_or(1);
-                let limit = asked.word(2).parse::<u32>().unwrap_or(0);
-                *self = Standing::new(alloc, boot, limit);
-            }
-            "wall" => self.wall = asked.word(1).parse::<u32>().unwrap_or(0),
-            "clock" => self.clock = clock_at(time_of(asked.word(1))),
-            _ => return Ok(false),
-        }
-        Ok(true)
-    }
-
-    /// What is answered to what is asked.
-    pub fn answer(&mut self, alloc: Global, asked: &str) -> Result<String, AllocError> {
-        let words: Vec<&str> = asked.split_whitespace().collect(alloc)?;
-        let asked = Asked {
-            words: words.as_slice(),
-        };
-        let mut out = String::new(alloc);
-        match asked.word(0) {
-            "statement" => self.statement(alloc, &asked, &mut out)?,
-            "commit" => self.commit(&asked, &mut out)?,
-            "prepare" => self.prepare(&asked, &mut out)?,
-            "decide" => self.decide(&asked, &mut out)?,
-            "abort" => self.abort(&asked, &mut out)?,
-            "recover" => self.recover(&asked, &mut out)?,
-            _ => self.look(&asked, &mut out)?,
-        }
-        Ok(out)
-    }
-
-    /// What is answered to what isn't a message.
-    fn look(&mut self, asked: &Asked, out: &mut String) -> Result<(), AllocError> {
-        match asked.word(0) {
-            "expire" => {
-                self.part.expire(self.wall);
-                out.push_str("done")
-            }
-            "session" => self.session(asked, out),
-            "least" => self.least(out),
-            "begin" => self.begin(asked, out),
-            "tick" => self.tick(asked, out),
-            _ => out.push_str("not asked"),
-        }
-    }
-
+    /// A statement goes to the part, unless another session has its transaction.
     fn statement(
         &mut self,
         alloc: Global,
-        asked: &Asked,
+        numbers: &mut Numbers,
         out: &mut String,
     ) -> Result<(), AllocError> {
         let m = Statement {
-            tag: asked.tag(),
-            lsid: asked.lsid(),
-            number: asked.number(),
-            k: asked.at(4),
-            read_at: asked.time_at(6),
-            boot: asked.at(5),
-            op: operation(alloc, asked, 7)?,
+            lsid: numbers.lsid(),
+            number: i64::from(numbers.number()),
+            tag: numbers.tag(),
+            k: numbers.number(),
+            read_at: Ts(0),
+            boot: numbers.number(),
+            op: operation(alloc, numbers)?,
         };
-        self.send(alloc, &m, out)
-    }
-
-    /// A statement goes to the part, unless another session has its transaction, or it reads above
-    /// the clock.
-    fn send(&mut self, alloc: Global, m: &Statement, out: &mut String) -> Result<(), AllocError> {
         if self.part.elsewhere(&m.lsid, m.tag) {
             return out.push_str("another session has it");
         }
-        let_go_on(&mut self.clock, self.wall);
-        if self.clock.last < m.read_at {
-            return out.push_str("above the clock");
-        }
-        match self.part.statement(&mut self.clock, self.wall, m) {
-            Ok(said) => put_said(alloc, out, &said),
+        match self.part.statement(&mut free_clock(1), 1, &m) {
+            Ok(said) => put_said(out, &said),
             Err(PartErr::Memory) => Err(AllocError),
         }
     }
 
-    fn commit(&mut self, asked: &Asked, out: &mut String) -> Result<(), AllocError> {
-        let m = Commit {
-            tag: asked.tag(),
-            lsid: asked.lsid(),
-            number: asked.number(),
-            boot: asked.at(4),
-        };
-        let_go_on(&mut self.clock, self.wall);
-        match self.part.commit(&mut self.clock, self.wall, &m) {
-            Ok(done) => put_done(out, &done),
-            Err(PartErr::Memory) => Err(AllocError),
-        }
-    }
-
-    fn prepare(&mut self, asked: &Asked, out: &mut String) -> Result<(), AllocError> {
-        let m = Prepare {
-            tag: asked.tag(),
-            lsid: asked.lsid(),
-            number: asked.number(),
-            boot: asked.at(4),
-            coordinator: u16::from(asked.byte_at(5)),
-        };
-        let_go_on(&mut self.clock, self.wall);
-        match self.part.prepare(&mut self.clock, self.wall, &m) {
-            Ok(voted) => put_voted(out, &voted),
-            Err(PartErr::Memory) => Err(AllocError),
-        }
-    }
-
-    fn decide(&mut self, asked: &Asked, out: &mut String) -> Result<(), AllocError> {
-        let decision = match asked.word(4) {
-            "commit" => Decision::Commit(time_of(asked.word(5))),
-            _ => Decision::Abort {
-                shard: 1,
-                code: asked.byte_at(5),
-            },
-        };
-        let m = Decide {
-            tag: asked.tag(),
-            lsid: asked.lsid(),
-            number: asked.number(),
-            decision,
-        };
-        match self.part.decide(&m) {
-            Some(_decided) => out.push_str("a record"),
-            None => out.push_str("no record"),
-        }
-    }
-
-    fn abort(&mut self, asked: &Asked, out: &mut String) -> Result<(), AllocError> {
-        let m = Abort {
-            tag: asked.tag(),
-            lsid: asked.lsid(),
-            number: asked.number(),
-            why: asked.byte_at(4),
-        };
-        self.part.abort(&m);
-        out.push_str("done")
-    }
-
-    fn recover(&mut self, asked: &Asked, out: &mut String) -> Result<(), AllocError> {
-        let m = Recover {
-            tag: asked.tag(),
-            lsid: asked.lsid(),
-            number: asked.number(),
-            boot: asked.at(4),
-        };
-        match self.part.recover(&m) {
-            Ok(told) => put_told(out, &told),
-            Err(PartErr::Memory) => Err(AllocError),
-        }
-    }
-
-    fn session(&self, asked: &Asked, out: &mut String) -> Result<(), AllocError> {
-        match self.part.session(&asked.lsid()) {
-            Some(session) => put_session(out, session),
+    fn session(&self, numbers: &mut Numbers, out: &mut String) -> Result<(), AllocError> {
+        match self.part.session(&numbers.lsid()) {
+            Some(session) => write!(out, "{} {}", session.number, session.tag.serial),
             None => out.push_str("none"),
         }
     }
 
-    fn least(&self, out: &mut String) -> Result<(), AllocError> {
-        match self.part.least_prepared() {
-            Some(at) => put_time(out, at),
-            None => out.push_str("none"),
-        }
+    fn begin(&mut self, numbers: &mut Numbers, out: &mut String) -> Result<(), AllocError> {
+        let lsid = numbers.lsid();
+        let number = i64::from(numbers.number());
+        put_begun(out, self.sessions.begin(lsid, number, numbers.tag()))
     }
 
-    /// A table of sessions alone begins a transaction.
-    fn begin(&mut self, asked: &Asked, out: &mut String) -> Result<(), AllocError> {
-        match self
-            .sessions
-            .begin(asked.lsid(), asked.number(), asked.tag())
-        {
-            Ok(()) => out.push_str("ok"),
-            Err(refusal) => put_session_refusal(out, refusal),
+    /// What is answered to what is done.
+    pub fn answer(&mut self, alloc: Global, line: &str) -> Result<String, AllocError> {
+        let mut out = String::new(alloc);
+        let mut numbers = Numbers::of(line);
+        match numbers.word() {
+            "new" => {
+                *self = Standing::new(alloc, numbers.number());
+                out.push_str("ok")?;
+            }
+            "statement" => self.statement(alloc, &mut numbers, &mut out)?,
+            "session" => self.session(&mut numbers, &mut out)?,
+            "begin" => self.begin(&mut numbers, &mut out)?,
+            "tick" => tick(&mut numbers, &mut out)?,
+            _ => out.push_str("no line of cases")?,
         }
-    }
-
-    /// A clock that stands where the part's does, below this ceiling, ticks.
-    fn tick(&self, asked: &Asked, out: &mut String) -> Result<(), AllocError> {
-        let mut clock = HybridClock::new();
-        clock.raise(time_of(asked.word(1)));
-        match clock.advance(self.clock.last) {
-            Ok(()) => put_tick(out, &clock.tick(self.wall)),
-            Err(_) => out.push_str("above the ceiling"),
-        }
+        Ok(out)
     }
 }

@@ -3,12 +3,11 @@
 #![tactic(auto)]
 
 mod cases;
-mod letters;
 mod standing;
-mod texts;
-mod words;
+mod unread;
 
 use cases::Cases;
+use standing::Standing;
 use std::{env, fs, io};
 
 /// The files of cases.
@@ -35,10 +34,12 @@ fn main(rt: HostRuntime) -> io::Result<()> {
     for name in FILES {
         let path = format!(in alloc; "{folder}/{name}")?;
         let text = fs::read_to_string(&rt, path.as_str())?;
-        let mut cases = Cases::new(alloc)?;
-        let report = cases.run(alloc, text.as_str())?;
-        print!(rt; "{report}")?;
-        println!(rt; "{name}: {} cases", cases.count)?;
+        let lines: Vec<&str> = text.lines().collect(alloc)?;
+        let mut cases = Cases::of(alloc, lines.as_slice());
+        Standing::new(alloc)?.run(alloc, &mut cases)?;
+        let Cases { said, count, .. } = cases;
+        print!(rt; "{said}")?;
+        println!(rt; "{name}: {count} cases")?;
     }
     Ok(())
 }

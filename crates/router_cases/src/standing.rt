@@ -1,34 +1,47 @@
 //! A router with its wall, and the ranges of routers to come.
-use crate::letters::letter;
-use crate::texts::words_of;
-use crate::words::{Words, id_of};
-use bson_core::Bytes;
+use crate::cases::Cases;
+use crate::unread::{Unread, bytes_of, sides};
+use bson_core::{Bytes, Text};
 use chunk_map::{ChunkMap, ChunkRow};
+use node_wire::{from_frame, to_frame};
+use op_msg::{read_frame, write_frame};
 use router_core::Router;
+use router_plan::Turn;
 use std::alloc::{AllocError, Global};
-use txn_types::{Happening, NodeEvent, Ns};
+use txn_types::{Envelope, Happening, Id, NodeEvent, Ns};
 
 #[derive(Drop)]
 pub struct Standing {
     shards: u16,
     rows: Vec<ChunkRow>,
-    number: u16,
     router: Router,
     wall: u32,
 }
 
-/// The range that begins at an id, or at none.
-fn range(alloc: Global, words: &mut Words) -> Result<Option<ChunkRow>, AllocError> {
-    let (database, collection) = words.next().split_once(".").unwrap_or(("", ""));
+/// The id of this word: a number, or a text.
+fn id_of(alloc: Global, word: &str) -> Result<Id, AllocError> {
+    match word.parse::<i64>() {
+        Ok(number) => Ok(Id::Num(number)),
+        Err(_) => Ok(Id::Text(Text::new(String::from_str(alloc, word)?))),
+    }
+}
+
+/// The range of `NAMESPACE SHARD` or `NAMESPACE SHARD from ID`.
+fn range(alloc: Global, text: &str) -> Result<ChunkRow, Unread> {
+    let (name, rest) = sides(text, " ")?;
+    let (database, collection) = sides(name, ".")?;
     let Ok(ns) = Ns::of(alloc, database, collection) else {
-        return Ok(None);
+        return Err(Unread::Word);
     };
-    let shard = words.bare_short();
-    let from = match words.next() {
-        "from" => Some(id_of(alloc, words.next())?),
-        _ => None,
+    let (shard, from) = match rest.split_once(" from ") {
+        Some((shard, id)) => (shard, Some(id_of(alloc, id)?)),
+        None => (rest, None),
     };
-    Ok(Some(ChunkRow { ns, from, shard }))
+    Ok(ChunkRow {
+        ns,
+        from,
+        shard: shard.parse::<u16>()?,
+    })
 }
 
 fn copy_rows(alloc: Global, rows: &[ChunkRow]) -> Result<Vec<ChunkRow>, AllocError> {
@@ -39,44 +52,81 @@ fn copy_rows(alloc: Global, rows: &[ChunkRow]) -> Result<Vec<ChunkRow>, AllocErr
     Ok(copy)
 }
 
-/// A message of a client, of its digits.
-fn message(alloc: Global, words: &mut Words) -> Option<Happening> {
-    let conn = words.bare_word();
-    match hex::decode(alloc, words.next()) {
-        Ok(bytes) => Some(Happening::Client {
-            conn,
-            frame: Bytes::new(bytes),
+/// The message of a shard in these digits.
+fn message(alloc: Global, digits: &str) -> Result<Envelope, Unread> {
+    let bytes = bytes_of(alloc, digits)?;
+    let Ok(frame) = read_frame(alloc, bytes.as_slice()) else {
+        return Err(Unread::Word);
+    };
+    match from_frame(alloc, &frame) {
+        Ok(envelope) => Ok(envelope),
+        Err(_) => Err(Unread::Word),
+    }
+}
+
+/// A client's message, of `CONNECTION DIGITS`.
+fn client(alloc: Global, text: &str) -> Result<Happening, Unread> {
+    let (conn, digits) = sides(text, " ")?;
+    Ok(Happening::Client {
+        conn: conn.parse::<u32>()?,
+        frame: Bytes::new(bytes_of(alloc, digits)?),
+    })
+}
+
+/// What a line says that happens to a router.
+fn happening(alloc: Global, word: &str, rest: &str) -> Result<Happening, Unread> {
+    match word {
+        "client" => client(alloc, rest),
+        "deliver" => Ok(Happening::Deliver(message(alloc, rest)?)),
+        "gone" => Ok(Happening::Gone {
+            conn: rest.parse::<u32>()?,
         }),
-        Err(_) => None,
+        "resend" => Ok(Happening::Resend),
+        "moment" => Ok(Happening::Moment),
+        _ => Err(Unread::Word),
     }
 }
 
-/// What a line says that happens to a router; none, where it says no such thing.
-fn happening(alloc: Global, line: &str, router: u16) -> Result<Option<Happening>, AllocError> {
-    let mut words = Words::of(line);
-    match words.next() {
-        "client" => Ok(message(alloc, &mut words)),
-        "gone" => Ok(Some(Happening::Gone {
-            conn: words.bare_word(),
-        })),
-        "resend" => Ok(Some(Happening::Resend)),
-        "moment" => Ok(Some(Happening::Moment)),
-        _ => match letter(alloc, line, router)? {
-            Some(envelope) => Ok(Some(Happening::Deliver(envelope))),
-            None => Ok(None),
-        },
+/// Finds the bytes of a message to a shard.
+fn put_message(alloc: Global, envelope: &Envelope, found: &mut String) -> Result<(), AllocError> {
+    let Ok(frame) = to_frame(alloc, envelope) else {
+        return Err(AllocError);
+    };
+    let mut bytes = Vec::new(alloc);
+    if write_frame(alloc, &frame, &mut bytes).is_err() {
+        return Err(AllocError);
     }
+    let digits = hex::encode(alloc, bytes.as_slice())?;
+    write!(found, "{digits}\n")
 }
 
-/// What the router gives out at an event, each thing in words.
+/// Finds what a router gave out: messages, replies, and that the connection is closed.
+fn put_turn(alloc: Global, turn: &Turn, found: &mut String) -> Result<(), AllocError> {
+    for envelope in turn.out.as_slice() {
+        put_message(alloc, envelope, found)?;
+    }
+    for (conn, bytes) in turn.replies.as_slice() {
+        let digits = hex::encode(alloc, bytes.as_slice())?;
+        write!(found, "reply {conn}: {digits}\n")?;
+    }
+    if let Some(number) = turn.closed {
+        write!(found, "closed {number}\n")?;
+    }
+    if found.is_empty() {
+        found.push_str("nothing\n")?;
+    }
+    Ok(())
+}
+
+/// Finds what a router gives out at an event.
 fn taken(
     alloc: Global,
     router: &mut Router,
-    number: u16,
     event: &NodeEvent,
-) -> Result<Vec<String>, AllocError> {
+    found: &mut String,
+) -> Result<(), AllocError> {
     let turn = router.step(event)?;
-    words_of(alloc, &turn, number)
+    put_turn(alloc, &turn, found)
 }
 
 impl Standing {
@@ -88,73 +138,62 @@ impl Standing {
         Ok(Standing {
             shards: 1,
             rows: Vec::new(alloc),
-            number: 0,
             router: Router::of(alloc, 0, 1, map),
             wall: 1,
         })
     }
 
-    /// A new router at this boot, over the ranges that stand; whether these are a map.
-    fn start(&mut self, alloc: Global, number: u16, boot: u32) -> Result<bool, AllocError> {
+    /// A new router of `N boot B`, over the ranges that stand.
+    fn start(&mut self, alloc: Global, text: &str) -> Result<(), Unread> {
+        let (number, boot) = sides(text, " boot ")?;
+        let (number, boot) = (number.parse::<u16>()?, boot.parse::<u32>()?);
         let rows = copy_rows(alloc, self.rows.as_slice())?;
         let Ok(map) = ChunkMap::new(self.shards, rows) else {
-            return Ok(false);
+            return Err(Unread::Word);
         };
-        self.number = number;
         self.router = Router::of(alloc, number, boot, map);
         self.wall = 1;
-        Ok(true)
+        Ok(())
     }
 
-    /// Sets what a line says; whether it says such a thing.
-    pub fn set(&mut self, alloc: Global, line: &str) -> Result<bool, AllocError> {
-        let mut words = Words::of(line);
-        match words.next() {
-            "shards" => {
-                self.shards = words.bare_short();
-                self.rows = Vec::new(alloc);
-                Ok(true)
-            }
-            "range" => match range(alloc, &mut words)? {
-                Some(row) => {
-                    self.rows.push(row)?;
-                    Ok(true)
-                }
-                None => Ok(false),
-            },
-            "router" => {
-                let number = words.bare_short();
-                let boot = words.word();
-                self.start(alloc, number, boot)
-            }
-            "wall" => {
-                self.wall = words.bare_word();
-                Ok(true)
-            }
-            _ => Ok(false),
-        }
-    }
-
-    fn boot(&self, alloc: Global) -> Result<Vec<String>, AllocError> {
-        let boot = self.router.boot();
-        let mut given = Vec::new(alloc);
-        given.push(format!(in alloc; "boot {boot}")?)?;
-        Ok(given)
-    }
-
-    /// What the router gives out at what a line says that happens, each thing in words; none, where
-    /// it says no such thing.
-    pub fn give(&mut self, alloc: Global, line: &str) -> Result<Option<Vec<String>>, AllocError> {
-        if line == "boot" {
-            return Ok(Some(self.boot(alloc)?));
-        }
-        let Some(what) = happening(alloc, line, self.number)? else {
-            return Ok(None);
-        };
+    /// Finds what the router gives out when this happens.
+    fn give(&mut self, alloc: Global, what: Happening, found: &mut String) -> Result<(), Unread> {
         let event = NodeEvent {
             wall: self.wall,
             what,
         };
-        Ok(Some(taken(alloc, &mut self.router, self.number, &event)?))
+        Ok(taken(alloc, &mut self.router, &event, found)?)
+    }
+
+    /// Does what a line says.
+    fn step(&mut self, alloc: Global, line: &str, found: &mut String) -> Result<(), Unread> {
+        let (word, rest) = line.split_once(" ").unwrap_or((line, ""));
+        match word {
+            "shards" => {
+                self.shards = rest.parse::<u16>()?;
+                self.rows.clear();
+            }
+            "range" => self.rows.push(range(alloc, rest)?)?,
+            "router" => self.start(alloc, rest)?,
+            "wall" => self.wall = rest.parse::<u32>()?,
+            "boot" => write!(found, "boot {}\n", self.router.boot())?,
+            _ => self.give(alloc, happening(alloc, word, rest)?, found)?,
+        }
+        Ok(())
+    }
+
+    /// Does what the lines say.
+    pub fn run(&mut self, alloc: Global, cases: &mut Cases) -> Result<(), AllocError> {
+        for _ in 0..cases.len() {
+            let line = cases.peek();
+            if line.is_empty() {
+                return Ok(());
+            }
+            cases.pass();
+            let mut found = String::new(alloc);
+            let done = self.step(alloc, line, &mut found);
+            cases.close(line, done, found.as_str())?;
+        }
+        Ok(())
     }
 }

@@ -3,7 +3,7 @@
 #![tactic(auto)]
 
 mod cases;
-mod texts;
+mod frames;
 
 use cases::Cases;
 use std::{env, fs, io};
